@@ -1,0 +1,7 @@
+use Rattle.std.proofs.Common.{◌∙◌}
+use Rattle.ir_laws.proofs.HeapLemmas.{cached_size-tree_of}
+use Rattle.ir_table.specs.Interner.{heap}
+use Rattle.ir_table.proofs.Interner.size_of.Goals as goal
+
+pub returns : goal.returns
+returns c = c.cached.ensures.size ∙ cached_size-tree_of (heap c.args.self.now) c.args.self.now.sound c.args.part c.requires

@@ -1,0 +1,10 @@
+pub mod TableLemmas
+pub mod PartLemmas
+pub mod LoopLemmas
+pub mod StateLemmas
+pub mod SortLemmas
+pub mod Sorts
+pub mod CallerLemmas
+pub mod NodeLemmas
+pub mod JoinLemmas
+pub mod SpellingLemmas

@@ -1,0 +1,65 @@
+-- What a value beside a list's items says.
+use Rattle.std.proofs.Common.{◌≡◌, ℕ, ◌+◌, ◌<◌, max, min, arith, List, ◌∷◌, length, drop, get_or, Option, None, Some, ap, sym, subst, map, ◌∙◌}
+use Rattle.std.proofs.lemmas.List.{drop_more, length-map, get_or-map}
+use Rattle.ir_laws.specs.Heap.{Each, largest, total, size_cap}
+use Rattle.std.specs.Option.{option_map, option_map_or}
+use Rattle.ir_core.specs.declared.handles.Ty.{Ty}
+use Rattle.ir_table.specs.declared.parts.Cached.{Cached}
+use Rattle.ir_table.specs.Kinds.{tys_sketch}
+
+pub height_from_value : (o : Option (List Ty × Cached)) (v : Cached) → option_map (λ e. e.1) o ≡ Some v → v.height ≡ option_map_or (λ s. s.height) (option_map tys_sketch o) 0
+height_from_value None v e = absurd cc
+height_from_value (Some x) v e = let w : x.1 ≡ v = cc in ap (λ (c : Cached). c.height) (sym w)
+
+pub size_from_value : (o : Option (List Ty × Cached)) (v : Cached) → option_map (λ e. e.1) o ≡ Some v → v.size ≡ option_map_or (λ s. s.size) (option_map tys_sketch o) 0
+size_from_value None v e = absurd cc
+size_from_value (Some x) v e = let w : x.1 ≡ v = cc in ap (λ (c : Cached). c.size) (sym w)
+
+-- one step over names, by what is left of them
+module _ {P : Type 0} (xs : List P) (i : ℕ) (d : P) (within : i < length xs) where
+  pub each_step : (F : P → Type 0) → Each F (drop i xs) → F (get_or xs i d) × Each F (drop (i + 1) xs)
+  each_step F h = subst (Each F) (drop_more xs i d within) h
+
+  pub each_head : (F : P → Type 0) → Each F (drop i xs) → F (get_or xs i d)
+  each_head F h = (each_step F h).0
+
+  pub each_tail : (F : P → Type 0) → Each F (drop i xs) → Each F (drop (i + 1) xs)
+  each_tail F h = (each_step F h).1
+
+  pub largest_step : (f : P → ℕ) → largest f (drop i xs) ≡ max (f (get_or xs i d)) (largest f (drop (i + 1) xs))
+  largest_step f = ap (largest f) (drop_more xs i d within)
+
+  pub total_step : (f : P → ℕ) → total f (drop i xs) ≡ f (get_or xs i d) + total f (drop (i + 1) xs)
+  total_step f = ap (total f) (drop_more xs i d within)
+
+  pub height_step : (f : P → ℕ) (low next n : ℕ) → next ≡ max low (f (get_or xs i d)) → max low (largest f (drop i xs)) ≡ n → max next (largest f (drop (i + 1) xs)) ≡ n
+  height_step f low next n a e = let s = largest_step f in omega arith
+
+  pub size_step : (f : P → ℕ) (sum next n : ℕ) → next ≡ min (sum + f (get_or xs i d)) size_cap → min size_cap (sum + total f (drop i xs)) ≡ n → min size_cap (next + total f (drop (i + 1) xs)) ≡ n
+  size_step f sum next n a e = let s = total_step f in omega arith
+
+-- the same over items that name the parts
+module _ {P X : Type 0} (name : X → P) (xs : List X) (i : ℕ) (d : X) (within : i < length xs) where
+  within_map : i < length (map name xs)
+  within_map = let l = length-map xs name in omega arith
+
+  at_map : get_or (map name xs) i (name d) ≡ name (get_or xs i d)
+  at_map = get_or-map name xs i d (name d) within
+
+  pub item_head : (F : P → Type 0) → Each F (drop i (map name xs)) → F (name (get_or xs i d))
+  item_head F h = subst F at_map (each_head (map name xs) i (name d) within_map F h)
+
+  pub item_tail : (F : P → Type 0) → Each F (drop i (map name xs)) → Each F (drop (i + 1) (map name xs))
+  item_tail F h = each_tail (map name xs) i (name d) within_map F h
+
+  pub item_height_step : (f : P → ℕ) (low next n : ℕ) → next ≡ max low (f (name (get_or xs i d))) → max low (largest f (drop i (map name xs))) ≡ n
+      → max next (largest f (drop (i + 1) (map name xs))) ≡ n
+  item_height_step f low next n a e = height_step (map name xs) i (name d) within_map f low next n (a ∙ ap (λ p. max low (f p)) (sym at_map)) e
+
+  pub item_size_step : (f : P → ℕ) (sum next n : ℕ) → next ≡ min (sum + f (name (get_or xs i d))) size_cap → min size_cap (sum + total f (drop i (map name xs))) ≡ n
+      → min size_cap (next + total f (drop (i + 1) (map name xs))) ≡ n
+  item_size_step f sum next n a e = size_step (map name xs) i (name d) within_map f sum next n (a ∙ ap (λ p. min (sum + f p) size_cap) (sym at_map)) e
+
+  -- a function of what is left, one step on
+  pub item_rest : {Y : Type 0} (G : List P → Y) → G (drop i (map name xs)) ≡ G (name (get_or xs i d) ∷ drop (i + 1) (map name xs))
+  item_rest G = ap G (drop_more (map name xs) i (name d) within_map) ∙ ap (λ p. G (p ∷ drop (i + 1) (map name xs))) at_map

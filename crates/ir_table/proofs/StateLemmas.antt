@@ -1,0 +1,88 @@
+-- What `new` answers, in each of its ends.
+use Rattle.std.proofs.Common.{◌≡◌, ◌+◌, ◌<◌, ◌≤◌, inl, inr, List, Ok, Err, Some, is_some, length, if◌then◌else◌, refl, sym, ap, ◌∙◌, arith}
+use Rattle.ir_laws.specs.Heap.{Shape, Sketch, Each, IsLive, IsSound, Adds, Holds, height_above}
+use Rattle.ir_core.specs.declared.handles.Part.{Part}
+use Rattle.ir_laws.proofs.HeapLemmas.{held_node, interns_held, interns_new}
+use Rattle.ir_core.specs.declared.errors.TermError.TheVariants as error
+use Rattle.ir_table.specs.State.{State, IsNew, NewAnswers}
+
+module _ {T : Type 0} (name : T → Part) (s : State) (sound : IsSound s.heap) (shape : Shape) (kids : List Part) (live : Each (IsLive s.heap) kids) where
+  pub is_new : ((q : Part) (t : Sketch Part) → s.heap q ≡ Some t → t.shape ≡ shape → t.kids ≡ kids → ⊥) → IsNew s shape kids
+  is_new fresh h =
+      let x = held_node s.heap sound shape kids live h.0 h.1 h.2 in
+      fresh h.0 x.0 x.1 x.2 x.3
+
+  pub answers_held : (t : T) (k : Sketch Part) → s.heap (name t) ≡ Some k → k.shape ≡ shape → k.kids ≡ kids → height_above s.heap kids ≤ s.high → NewAnswers name s s shape kids (Ok t)
+  answers_held t k e a b low =
+      let i = interns_held s.heap sound shape kids live (name t) k e a b in
+      let held : Holds s.heap shape kids = (name t, i.live, i.tree) in
+      record {
+        ok = i;
+        count = sym (ap (λ c. s.count + (if c then 0 else 1)) i.live ∙ (let z : s.count + 0 ≡ s.count = omega arith in z));
+        err = tt;
+        low = low;
+        room = inl held;
+        too_deep = λ e. absurd (cc e);
+        too_many = λ e. absurd (cc e);
+        memory = λ e _. absurd (cc e);
+        causes = tt;
+        limits = (refl, refl);
+      }
+
+  pub answers_too_deep : s.high < height_above s.heap kids → NewAnswers name s s shape kids (Err error.TooDeep)
+  answers_too_deep deep = record {
+    ok = tt;
+    count = tt;
+    err = refl;
+    low = tt;
+    room = tt;
+    too_deep = λ e. deep;
+    too_many = λ e. absurd (cc e);
+    memory = λ e _. absurd (cc e);
+    causes = tt;
+    limits = (refl, refl);
+  }
+
+  pub answers_too_many : IsNew s shape kids → height_above s.heap kids ≤ s.high → s.nodes ≤ s.count → NewAnswers name s s shape kids (Err error.TooMany)
+  answers_too_many new low full = record {
+    ok = tt;
+    count = tt;
+    err = refl;
+    low = tt;
+    room = tt;
+    too_deep = λ e. absurd (cc e);
+    too_many = λ e. (new, low, full);
+    memory = λ e _. absurd (cc e);
+    causes = tt;
+    limits = (refl, refl);
+  }
+
+  pub answers_memory : (s' : State) → s' ≡ s → (length kids ≤ 8 → IsNew s shape kids) → NewAnswers name s s' shape kids (Err error.Memory)
+  answers_memory s' same new = record {
+    ok = tt;
+    count = tt;
+    low = tt;
+    room = tt;
+    err = same;
+    too_deep = λ e. absurd (cc e);
+    too_many = λ e. absurd (cc e);
+    memory = λ e few. new few;
+    causes = tt;
+    limits = (ap (λ (x : State). x.nodes) same, ap (λ (x : State). x.high) same);
+  }
+
+  pub answers_new : (s' : State) (t : T) (k : Sketch Part) → Adds s.heap s'.heap (name t) k → IsSound s'.heap → k.shape ≡ shape → k.kids ≡ kids
+      → s'.count ≡ s.count + 1 → s'.nodes ≡ s.nodes → s'.high ≡ s.high → s.count < s.nodes → height_above s.heap kids ≤ s.high → IsNew s shape kids
+      → NewAnswers name s s' shape kids (Ok t)
+  answers_new s' t k adds after a b more nodes high room low new = record {
+    ok = interns_new s.heap sound shape kids live s'.heap (name t) k adds after a b;
+    count = more ∙ sym (ap (λ o. s.count + (if is_some o then 0 else 1)) adds.before);
+    err = tt;
+    low = low;
+    room = inr room;
+    too_deep = λ e. absurd (cc e);
+    too_many = λ e. absurd (cc e);
+    memory = λ e _. absurd (cc e);
+    causes = tt;
+    limits = (nodes, high);
+  }

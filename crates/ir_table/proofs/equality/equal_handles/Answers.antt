@@ -1,0 +1,24 @@
+use Rattle.std.proofs.Common.{ap}
+use Rattle.ir_core.specs.declared.handles.Part.TheVariants as part
+use Rattle.ir_laws.specs.Heap.{tree_of}
+use Rattle.ir_laws.proofs.HeapLemmas.{tree_of-injective}
+use Rattle.ir_table.specs.Interner.{heap}
+use Rattle.ir_table.proofs.equality.equal_handles.Goals as goal
+
+pub returns-clause-types : goal.returns-clause-types
+returns-clause-types c = λ cx x y p q. (
+  λ e. ap (λ t. tree_of (heap cx) (part.Ty t)) e,
+  λ e. let same = tree_of-injective (heap cx) cx.sound (part.Ty x) (part.Ty y) p q e in cc same,
+)
+
+pub returns-clause-regions : goal.returns-clause-regions
+returns-clause-regions c = λ cx x y p q. (
+  λ e. ap (λ r. tree_of (heap cx) (part.Region r)) e,
+  λ e. let same = tree_of-injective (heap cx) cx.sound (part.Region x) (part.Region y) p q e in cc same,
+)
+
+pub returns-clause-type_lists : goal.returns-clause-type_lists
+returns-clause-type_lists c = λ cx x y p q. (
+  λ e. ap (λ ts. tree_of (heap cx) (part.Tys ts)) e,
+  λ e. let same = tree_of-injective (heap cx) cx.sound (part.Tys x) (part.Tys y) p q e in cc same,
+)

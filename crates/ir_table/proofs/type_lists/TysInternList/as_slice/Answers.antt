@@ -1,0 +1,12 @@
+use Rattle.ir_table.specs.Kinds.{heap_of, tys_sketch}
+use Rattle.ir_table.proofs.PartLemmas.{live_within}
+use Rattle.ir_table.proofs.SortLemmas.{node_at_list}
+use Rattle.ir_table.proofs.Sorts.{tys_sort}
+use Rattle.ir_table.proofs.type_lists.TysInternList.as_slice.Goals as goal
+
+pub get-requires : goal.get-requires
+unfolding heap_of
+get-requires c = live_within tys_sketch c.args.cx.now.lists c.args.self.position c.requires
+
+pub returns : goal.returns
+returns c = node_at_list (tys_sort c.args.cx.now) c.args.cx.now.lists c.args.cx.now.sound c.args.self.position c.get.result.now c.get.ensures

@@ -1,0 +1,7 @@
+use Rattle.ir_table.specs.Kinds.{heap_of, ty_sketch}
+use Rattle.ir_table.proofs.PartLemmas.{holds_iff}
+use Rattle.ir_table.proofs.types.TyIntern.holds.Goals as goal
+
+pub returns : goal.returns
+unfolding heap_of
+returns c = holds_iff ty_sketch c.args.cx.now.tys c.args.self.position c.len.result c.len.ensures

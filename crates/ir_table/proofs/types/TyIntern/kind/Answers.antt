@@ -1,0 +1,12 @@
+use Rattle.ir_table.specs.Kinds.{heap_of, ty_sketch}
+use Rattle.ir_table.proofs.PartLemmas.{live_within}
+use Rattle.ir_table.proofs.SortLemmas.{node_at}
+use Rattle.ir_table.proofs.Sorts.{ty_sort}
+use Rattle.ir_table.proofs.types.TyIntern.kind.Goals as goal
+
+pub get-requires : goal.get-requires
+unfolding heap_of
+get-requires c = live_within ty_sketch c.args.cx.now.tys c.args.self.position c.requires
+
+pub returns : goal.returns
+returns c = node_at (ty_sort c.args.cx.now) c.args.cx.now.tys c.args.cx.now.sound c.args.self.position c.get.result.0 c.get.result.1 c.get.ensures

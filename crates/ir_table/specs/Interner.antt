@@ -1,0 +1,18 @@
+-- The tables of an interner as a state.
+use Rattle.std.specs.Prelude.{◌+◌, length}
+use Rattle.ir_core.specs.declared.handles.Part.{Part}
+use Rattle.ir_laws.specs.Heap.{Heap}
+use Rattle.ir_table.specs.Kinds.{heap_of}
+use Rattle.ir_table.specs.declared.Interner.{Interner}
+use Rattle.ir_table.specs.State.{State}
+
+abbrev pub heap : Interner → Heap Part
+heap cx = heap_of cx.tys cx.regions cx.lists
+
+abbrev pub state : Interner → State
+state cx = record {
+  heap = heap cx;
+  count = length cx.tys + length cx.regions + length cx.lists;
+  nodes = cx.nodes;
+  high = cx.high;
+}

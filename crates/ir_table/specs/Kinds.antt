@@ -1,0 +1,204 @@
+-- What each kind of node is: its word, its fields and its kids; and back.
+use Rattle.std.specs.Prelude.{List, [], ◌∷◌, None, map, slice_get}
+use Rattle.std.specs.Option.{option_map}
+use Rattle.ir_core.specs.declared.ids.SolverDefId.{SolverDefId}
+use Rattle.ir_core.specs.declared.handles.Ty.{Ty}
+use Rattle.ir_core.specs.declared.kinds.TyKind.{TyKind}
+use Rattle.ir_core.specs.declared.kinds.TyKind.TheVariants as kind
+use Rattle.ir_core.specs.declared.kinds.RegionKind.{RegionKind}
+use Rattle.ir_core.specs.declared.kinds.RegionKind.TheVariants as region
+use Rattle.ir_core.specs.declared.kinds.IntTy.{IntTy}
+use Rattle.ir_core.specs.declared.kinds.IntTy.TheVariants as int
+use Rattle.ir_core.specs.declared.kinds.UintTy.{UintTy}
+use Rattle.ir_core.specs.declared.kinds.UintTy.TheVariants as uint
+use Rattle.ir_core.specs.declared.kinds.FloatTy.{FloatTy}
+use Rattle.ir_core.specs.declared.kinds.FloatTy.TheVariants as float
+use Rattle.ir_core.specs.declared.kinds.Mutability.{Mutability}
+use Rattle.ir_core.specs.declared.kinds.Mutability.TheVariants as mutability
+use Rattle.ir_laws.specs.declared.words.Word.{Word}
+use Rattle.ir_laws.specs.declared.words.Word.TheVariants.{BoolType, CharType, StrType, NeverType, I8Type, I16Type, I32Type, I64Type, I128Type, ISizeType, U8Type, U16Type, U32Type, U64Type, U128Type, USizeType, F16Type, F32Type, F64Type, F128Type, ErrorType, PointerType, ReferenceType, TupleType, StaticRegion, ErasedRegion, ErrorRegion, TypeList}
+use Rattle.ir_laws.specs.declared.labels.Keyword.{Keyword}
+use Rattle.ir_laws.specs.declared.labels.Keyword.TheVariants.{Not, Mut}
+use Rattle.ir_laws.specs.Tree as tree
+use Rattle.ir_core.specs.declared.handles.Part.{Part}
+use Rattle.ir_core.specs.declared.handles.Part.TheVariants as part
+use Rattle.ir_table.specs.declared.parts.Cached.{Cached}
+use Rattle.ir_table.specs.declared.parts.Field.{Field}
+use Rattle.ir_table.specs.declared.parts.Field.TheVariants as field
+use Rattle.ir_table.specs.declared.parts.Fields.{Fields as NodeFields}
+use Rattle.ir_table.specs.declared.parts.Fields.TheVariants as fields
+use Rattle.ir_table.specs.declared.parts.Kids.{Kids as NodeKids}
+use Rattle.ir_table.specs.declared.parts.Kids.TheVariants as kids
+use Rattle.ir_table.specs.declared.parts.Node.{Node}
+use Rattle.ir_laws.specs.Heap.{Shape, Sketch, Heap}
+
+abbrev pub Fields : Type 0
+Fields = List (tree.Field SolverDefId)
+
+-- the fields and the kids of a node of the code, as lists
+abbrev pub fields_of : NodeFields → List Field
+fields_of fields.None = []
+fields_of (fields.One a) = a ∷ []
+fields_of (fields.Two a b) = a ∷ b ∷ []
+fields_of (fields.Three a b c) = a ∷ b ∷ c ∷ []
+
+abbrev pub kids_of : NodeKids → List Part
+kids_of kids.None = []
+kids_of (kids.One a) = a ∷ []
+kids_of (kids.Two a b) = a ∷ b ∷ []
+
+abbrev pub field_seen : Field → tree.Field SolverDefId
+field_seen (field.Chosen w) = tree.Chosen w
+
+-- a shape that binds nothing
+abbrev pub shape : Word → Fields → Shape
+shape w fs = record { label = record { word = w; fields = fs }; bind = None }
+
+-- what a node of the code says
+abbrev pub node_shape : Node → Shape
+node_shape n = shape n.word (map field_seen (fields_of n.fields))
+
+abbrev pub node_kids : Node → List Part
+node_kids n = kids_of n.kids
+
+abbrev pub int_word : IntTy → Word
+int_word int.I8 = I8Type
+int_word int.I16 = I16Type
+int_word int.I32 = I32Type
+int_word int.I64 = I64Type
+int_word int.I128 = I128Type
+int_word int.Isize = ISizeType
+
+abbrev pub uint_word : UintTy → Word
+uint_word uint.U8 = U8Type
+uint_word uint.U16 = U16Type
+uint_word uint.U32 = U32Type
+uint_word uint.U64 = U64Type
+uint_word uint.U128 = U128Type
+uint_word uint.Usize = USizeType
+
+abbrev pub float_word : FloatTy → Word
+float_word float.F16 = F16Type
+float_word float.F32 = F32Type
+float_word float.F64 = F64Type
+float_word float.F128 = F128Type
+
+abbrev pub mutability_word : Mutability → Keyword
+mutability_word mutability.Not = Not
+mutability_word mutability.Mut = Mut
+
+-- ---- types
+
+abbrev pub ty_word : TyKind → Word
+ty_word kind.Bool = BoolType
+ty_word kind.Char = CharType
+ty_word (kind.Int i) = int_word i
+ty_word (kind.Uint u) = uint_word u
+ty_word (kind.Float f) = float_word f
+ty_word kind.Str = StrType
+ty_word (kind.RawPtr t m) = PointerType
+ty_word (kind.Ref r t m) = ReferenceType
+ty_word kind.Never = NeverType
+ty_word (kind.Tuple ts) = TupleType
+ty_word (kind.Error e) = ErrorType
+
+abbrev pub ty_fields : TyKind → Fields
+ty_fields (kind.RawPtr t m) = tree.Chosen (mutability_word m) ∷ []
+ty_fields (kind.Ref r t m) = tree.Chosen (mutability_word m) ∷ []
+ty_fields _ = []
+
+abbrev pub ty_kids : TyKind → List Part
+ty_kids (kind.RawPtr t m) = part.Ty t ∷ []
+ty_kids (kind.Ref r t m) = part.Region r ∷ part.Ty t ∷ []
+ty_kids (kind.Tuple ts) = part.Tys ts ∷ []
+ty_kids _ = []
+
+abbrev pub ty_shape : TyKind → Shape
+ty_shape k = shape (ty_word k) (ty_fields k)
+
+-- the kind of the word with these fields and kids
+abbrev pub mutability_of : Fields → Mutability
+mutability_of (tree.Chosen Mut ∷ fs) = mutability.Mut
+mutability_of fs = mutability.Not
+
+abbrev pub pointer_of : Mutability → List Part → TyKind
+pointer_of m (part.Ty t ∷ []) = kind.RawPtr t m
+pointer_of m ks = kind.Never
+
+abbrev pub reference_of : Mutability → List Part → TyKind
+reference_of m (part.Region r ∷ part.Ty t ∷ []) = kind.Ref r t m
+reference_of m ks = kind.Never
+
+abbrev pub tuple_of : List Part → TyKind
+tuple_of (part.Tys ts ∷ []) = kind.Tuple ts
+tuple_of ks = kind.Never
+
+abbrev pub ty_of : Word → Fields → List Part → TyKind
+ty_of BoolType fs ks = kind.Bool
+ty_of CharType fs ks = kind.Char
+ty_of I8Type fs ks = kind.Int int.I8
+ty_of I16Type fs ks = kind.Int int.I16
+ty_of I32Type fs ks = kind.Int int.I32
+ty_of I64Type fs ks = kind.Int int.I64
+ty_of I128Type fs ks = kind.Int int.I128
+ty_of ISizeType fs ks = kind.Int int.Isize
+ty_of U8Type fs ks = kind.Uint uint.U8
+ty_of U16Type fs ks = kind.Uint uint.U16
+ty_of U32Type fs ks = kind.Uint uint.U32
+ty_of U64Type fs ks = kind.Uint uint.U64
+ty_of U128Type fs ks = kind.Uint uint.U128
+ty_of USizeType fs ks = kind.Uint uint.Usize
+ty_of F16Type fs ks = kind.Float float.F16
+ty_of F32Type fs ks = kind.Float float.F32
+ty_of F64Type fs ks = kind.Float float.F64
+ty_of F128Type fs ks = kind.Float float.F128
+ty_of StrType fs ks = kind.Str
+ty_of PointerType fs ks = pointer_of (mutability_of fs) ks
+ty_of ReferenceType fs ks = reference_of (mutability_of fs) ks
+ty_of TupleType fs ks = tuple_of ks
+ty_of ErrorType fs ks = kind.Error (record {})
+ty_of _ fs ks = kind.Never
+
+-- ---- regions
+
+abbrev pub region_word : RegionKind → Word
+region_word region.ReStatic = StaticRegion
+region_word region.ReErased = ErasedRegion
+region_word (region.ReError e) = ErrorRegion
+
+abbrev pub region_shape : RegionKind → Shape
+region_shape k = shape (region_word k) []
+
+abbrev pub region_of : Word → RegionKind
+region_of StaticRegion = region.ReStatic
+region_of ErasedRegion = region.ReErased
+region_of _ = region.ReError (record {})
+
+-- ---- lists
+
+abbrev pub tys_shape : Shape
+tys_shape = shape TypeList []
+
+abbrev pub tys_kids : List Ty → List Part
+tys_kids ts = map part.Ty ts
+
+-- ---- the heap
+
+-- the nodes that the pairs of the tables stand for
+abbrev pub sketch : Shape → List Part → Cached → Sketch Part
+sketch s kids c = record { shape = s; kids = kids; height = c.height; size = c.size }
+
+abbrev pub ty_sketch : TyKind × Cached → Sketch Part
+ty_sketch e = sketch (ty_shape e.0) (ty_kids e.0) e.1
+
+abbrev pub region_sketch : RegionKind × Cached → Sketch Part
+region_sketch e = sketch (region_shape e.0) [] e.1
+
+abbrev pub tys_sketch : List Ty × Cached → Sketch Part
+tys_sketch e = sketch tys_shape (tys_kids e.0) e.1
+
+-- the heap that the tables are
+unfoldable pub heap_of : List (TyKind × Cached) → List (RegionKind × Cached) → List (List Ty × Cached) → Heap Part
+heap_of tys regions lists (part.Ty t) = option_map ty_sketch (slice_get tys t.position)
+heap_of tys regions lists (part.Region r) = option_map region_sketch (slice_get regions r.position)
+heap_of tys regions lists (part.Tys ts) = option_map tys_sketch (slice_get lists ts.position)

@@ -1,0 +1,9 @@
+pub mod Exact
+pub mod Table
+pub mod Kinds
+pub mod Fits
+pub mod Limits
+pub mod Spelled
+pub mod State
+pub mod Interner
+pub mod Laws

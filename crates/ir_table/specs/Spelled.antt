@@ -1,0 +1,56 @@
+-- What is spelled of a part, and behind what.
+use Rattle.std.specs.Prelude.{◌≡◌, false, List, [], ◌∷◌, ◌++◌, map, Option, None, unwrap_or, length, take, codes}
+use Rattle.ir_core.specs.declared.ids.SolverDefId.{SolverDefId}
+use Rattle.ir_core.specs.declared.handles.Ty.{Ty}
+use Rattle.ir_core.specs.declared.handles.Part.{Part}
+use Rattle.ir_core.specs.declared.handles.Part.TheVariants as part
+use Rattle.ir_core.specs.declared.terms.AnyTerm.{AnyTerm}
+use Rattle.ir_core.specs.declared.terms.AnyTerm.TheVariants as any
+use Rattle.ir_laws.specs.declared.labels.Part.{Part as LabelPart}
+use Rattle.ir_laws.specs.declared.labels.Sort.TheVariants.{OfList}
+use Rattle.ir_laws.specs.Tree.{Text}
+use Rattle.ir_laws.specs.Same.{same_sort}
+use Rattle.ir_laws.specs.Counts.{sort_of_label}
+use Rattle.ir_laws.specs.Spelling.{field_text, in_brackets, label_text, part_texts, spell}
+use Rattle.ir_laws.specs.Heap.{Shape, Heap, tree_of}
+use Rattle.ir_table.specs.declared.parts.Node.{Node}
+use Rattle.ir_table.specs.Kinds.{node_kids, node_shape, tys_kids}
+
+-- the part of a term
+abbrev pub part_of : AnyTerm → Part
+part_of (any.Ty t) = part.Ty t
+part_of (any.Region r) = part.Region r
+
+-- an id without a name is spelled `?`
+abbrev pub name_text : (SolverDefId → Option Text) → SolverDefId → Text
+name_text named id = unwrap_or (named id) (codes "?")
+
+-- what was there comes first still
+abbrev pub Begins : Text → Text → Type 0
+Begins old new = take (length old) new ≡ old
+
+-- each text behind a space
+abbrev pub after_each : List Text → Text
+after_each [] = []
+after_each (t ∷ ts) = codes " " ++ t ++ after_each ts
+
+module _ (name : SolverDefId → Text) (h : Heap Part) where
+  -- the texts of the parts
+  abbrev pub kid_texts : List Part → List Text
+  kid_texts ps = map (λ p. spell name (tree_of h p)) ps
+
+  -- a node of the shape with these kids
+  unfoldable pub node_text : Shape → List Part → Text
+  node_text s ps = label_text name s.label s.bind (kid_texts ps)
+
+  -- what stands behind the word of a node
+  unfoldable pub places_text : List LabelPart → Node → Text
+  places_text parts n = after_each (part_texts parts (map (field_text name) (node_shape n).label.fields) None (kid_texts (node_kids n)))
+
+  -- a list of types
+  unfoldable pub list_text : List Ty → Text
+  list_text tys = in_brackets (kid_texts (tys_kids tys))
+
+-- the shape is no list's
+unfoldable pub IsNoList : Shape → Type 0
+IsNoList s = same_sort (sort_of_label s.label) OfList ≡ false

@@ -1,0 +1,99 @@
+//! What is spelled of terms.
+ghost use Rattle.ir_core.specs.declared.handles.Part.TheVariants as part;
+ghost use Rattle.ir_laws.specs.Heap.{IsLive};
+ghost use Rattle.ir_table.specs.Interner.{heap};
+ghost use Rattle.ir_table.specs.Spelled.{part_of};
+ghost use Rattle.std.specs.Prelude.{IfOk};
+
+use crate::{Intern, InternList, Interner, Names, NoNames, spell};
+use ir_core::{
+    AnyTerm, ConstId, Limits, Mutability, R, Region, RegionKind, SolverDefId, Text, Ty, TyKind,
+    Tys, UintTy,
+};
+use std::alloc::Global;
+use std::test::Fail;
+
+const LIMITS: Limits = Limits {
+    index: 65_535,
+    number: 65_535,
+    height: 512,
+    nodes: 1_000_000,
+    size: 1_000_000,
+};
+
+// A reference to the type.
+fn reference(cx: &mut Interner, region: RegionKind, inner: Ty, mutability: Mutability) -> R<Ty>
+    requires { IsLive (heap cx.old) (part.Ty inner) }
+    ensures { IfOk result (λ ty. IsLive (heap cx.new) (part.Ty ty)) }
+{
+    let region = Region::new(cx, region)?;
+    Ty::new(cx, TyKind::Ref(region, inner, mutability))
+}
+
+// The tuple of a byte and the type.
+fn byte_and(cx: &mut Interner, second: Ty) -> R<Ty>
+    requires { IsLive (heap cx.old) (part.Ty second) }
+    ensures { IfOk result (λ ty. IsLive (heap cx.new) (part.Ty ty)) }
+{
+    let byte = Ty::new(cx, TyKind::Uint(UintTy::U8))?;
+    let tys = Tys::new_from_slice(cx, &[byte, second])?;
+    Ty::new(cx, TyKind::Tuple(tys))
+}
+
+// The spelling of the term behind another text.
+fn spelled(alloc: Global, cx: &Interner, term: AnyTerm) -> R<Text>
+    requires { IsLive (heap cx.now) (part_of term) }
+{
+    let mut out = Text::from_bytes(alloc, b"> ")?;
+    spell(alloc, cx, &NoNames, term, &mut out)?;
+    Ok(out)
+}
+
+#[test]
+fn a_region_is_a_word(rt: HostRuntime) -> Result<(), Fail> {
+    let mut cx = Interner::new(rt.alloc(), LIMITS)?;
+    let region = Region::new(&mut cx, RegionKind::ReStatic)?;
+    let text = spelled(rt.alloc(), &cx, AnyTerm::Region(region))?;
+    assert_eq!(rt; text.as_bytes(), b"> static".as_slice());
+    Ok(())
+}
+
+#[test]
+fn a_reference_has_its_keyword_first(rt: HostRuntime) -> Result<(), Fail> {
+    let mut cx = Interner::new(rt.alloc(), LIMITS)?;
+    let byte = Ty::new(&mut cx, TyKind::Uint(UintTy::U8))?;
+    let ty = reference(&mut cx, RegionKind::ReStatic, byte, Mutability::Not)?;
+    let text = spelled(rt.alloc(), &cx, AnyTerm::Ty(ty))?;
+    assert_eq!(rt; text.as_bytes(), b"> (ref not static u8)".as_slice());
+    Ok(())
+}
+
+#[test]
+fn a_list_stands_in_brackets(rt: HostRuntime) -> Result<(), Fail> {
+    let mut cx = Interner::new(rt.alloc(), LIMITS)?;
+    let tys = Tys::new_from_slice(&mut cx, &[])?;
+    let ty = Ty::new(&mut cx, TyKind::Tuple(tys))?;
+    let text = spelled(rt.alloc(), &cx, AnyTerm::Ty(ty))?;
+    assert_eq!(rt; text.as_bytes(), b"> (tuple ())".as_slice());
+    Ok(())
+}
+
+#[test]
+fn one_space_stands_between_two(rt: HostRuntime) -> Result<(), Fail> {
+    let mut cx = Interner::new(rt.alloc(), LIMITS)?;
+    let bool = Ty::new(&mut cx, TyKind::Bool)?;
+    let second = reference(&mut cx, RegionKind::ReErased, bool, Mutability::Mut)?;
+    let ty = byte_and(&mut cx, second)?;
+    let text = spelled(rt.alloc(), &cx, AnyTerm::Ty(ty))?;
+    assert_eq!(rt;
+        text.as_bytes(),
+        b"> (tuple (u8 (ref mut erased bool)))".as_slice()
+    );
+    Ok(())
+}
+
+#[test]
+fn no_item_has_a_name(rt: HostRuntime) {
+    let id = SolverDefId::ConstId(ConstId(0));
+    assert!(rt; NoNames.name(id).is_none());
+}
