@@ -1,0 +1,14 @@
+pub mod ExpressionLemmas
+pub mod LineLemmas
+pub mod CauseLemmas
+pub mod SortLemmas
+pub mod PlaceLemmas
+pub mod KidLemmas
+pub mod NameLemmas
+pub mod MisfitLemmas
+pub mod PhraseLemmas
+pub mod MakeableLemmas
+pub mod PlainLemmas
+pub mod AnswerLemmas
+pub mod PrintLemmas
+pub mod BuildLemmas

@@ -1,0 +1,175 @@
+-- Where the grammar, the names and the sorts have met no cause, a term can be made, if no name is declared.
+use Rattle.std.proofs.Common.{◌≡◌, Bool, true, false, ◌||◌, not, List, [], ◌∷◌, ◌++◌, map, Option, None, refl, sym, ap, inl, inr, subst, true≢false}
+use Rattle.std.specs.List.{list_all}
+use Rattle.std.proofs.lemmas.Bool.{false≢true, and_from, and_parts, or_cases, or_left, or_right}
+use Rattle.ir_laws.specs.declared.words.Word.{Word}
+use Rattle.ir_laws.specs.declared.labels.Sort.{Sort}
+use Rattle.ir_laws.specs.declared.labels.Sort.TheVariants.{OfType, OfRegion, OfConstant, OfPattern, OfPredicate}
+use Rattle.ir_laws.specs.declared.labels.KidForm.{KidForm}
+use Rattle.ir_laws.specs.declared.labels.KidForm.TheVariants.{OneOf, TypeOrConstant, ListOf, ArgumentsOf}
+use Rattle.ir_laws.specs.declared.labels.Part.{Part}
+use Rattle.ir_laws.specs.declared.labels.Part.TheVariants.{Fixed, ForGroup, AField, AKid}
+use Rattle.ir_laws.specs.Tree.{Text, Kind, Field, Label}
+use Rattle.ir_laws.specs.Word.{same_word, label_words}
+use Rattle.ir_laws.specs.Same.{same_sort}
+use Rattle.ir_laws.specs.Cause.{Cause, WrongSort}
+use Rattle.ir_laws.specs.Counts.{sort_of_label, sort_of_fields}
+use Rattle.ir_laws.specs.Label.{LabelSort, Always, ByKind, row, empty_cause}
+use Rattle.ir_laws.specs.Names.{unless, unknown_in, unknown_each}
+use Rattle.ir_laws.specs.Phrase.{Phrase, Phrases, Name, Labelled, NoPhrase, ThenPhrase}
+use Rattle.ir_laws.specs.Sorts.{Wanted, OfSorts, Members, has_some, is_sort_among, is_word_among, operand, an_argument, suits, fields_counted, kid_wanted, kids_wanted, places, misfits, each_misfits}
+use Rattle.ir_laws.specs.Formed.{kid_forms, is_formed, kids_formed, is_list_formed, all_formed}
+use Rattle.ir_laws.proofs.SameParts.{word_decides, sort_decides}
+use Rattle.ir_script.specs.Causes.{no_names}
+use Rattle.ir_script.specs.Makeable.{phrase_sort, is_makeable, kids_makeable, is_list_makeable, all_makeable, is_operand}
+
+-- ---- lists of causes that are empty
+
+both_empty : (cs ds : List Cause) → cs ++ ds ≡ [] → (cs ≡ []) × (ds ≡ [])
+both_empty [] ds h = (refl, h)
+both_empty (c ∷ cs) ds h = absurd (true≢false (ap has_some h))
+
+unless_empty : (b : Bool) (c : Cause) → unless b c ≡ [] → b ≡ true
+unless_empty true c h = refl
+unless_empty false c h = absurd (true≢false (ap has_some h))
+
+-- ---- the table's rules, each by a test over all words that the grammar knows
+
+-- what all words of a list pass, a word among them passes
+pub among_passes : (test : Word → Bool) (words : List Word) (w : Word) → list_all test words ≡ true → is_word_among words w ≡ true → test w ≡ true
+among_passes test [] w all among = absurd (false≢true among)
+among_passes test (v ∷ vs) w all among =
+    let parts = and_parts (test v) (list_all test vs) all in
+    elim (or_cases (same_word v w) (is_word_among vs w) among) [
+      | inl same ↦ subst (λ x. test x ≡ true) ((word_decides v w).0 same) parts.0
+      | inr further ↦ among_passes test vs w parts.1 further
+    ]
+
+-- a kid of this form can be made
+abbrev is_made : KidForm → Bool
+is_made (ArgumentsOf count) = false
+is_made form = true
+
+abbrev has_made_kids : Word → Bool
+has_made_kids w = list_all is_made (kid_forms (row w).parts)
+
+kids_are_made : list_all has_made_kids label_words ≡ true
+kids_are_made = refl
+
+-- no operand has the label's sort, or it is that of a type or a region
+abbrev is_operand_sort : Word → LabelSort → Bool
+is_operand_sort w (Always sort) = not (suits operand w sort) || (same_sort sort OfType || same_sort sort OfRegion)
+is_operand_sort w ByKind = false
+
+abbrev has_operand_sort : Word → Bool
+has_operand_sort w = is_operand_sort w (row w).sort
+
+operands_are_made : list_all has_operand_sort label_words ≡ true
+operands_are_made = refl
+
+implied : (x y : Bool) → (not x || y) ≡ true → x ≡ true → y ≡ true
+implied true y h e = h
+implied false y h e = absurd (false≢true e)
+
+operand_sort : (w : Word) (label : LabelSort) (own : Sort) → is_operand_sort w label ≡ true → suits operand w (elim label [ Always s ↦ s | ByKind ↦ own ]) ≡ true
+    → (same_sort (elim label [ Always s ↦ s | ByKind ↦ own ]) OfType || same_sort (elim label [ Always s ↦ s | ByKind ↦ own ]) OfRegion) ≡ true
+operand_sort w (Always sort) own test suit = implied (suits operand w sort) (same_sort sort OfType || same_sort sort OfRegion) test suit
+operand_sort w ByKind own test suit = absurd (false≢true test)
+
+-- ---- sorts
+
+turned : (s t : Sort) → same_sort t s ≡ true → same_sort s t ≡ true
+turned s t same = (sort_decides s t).1 (sym ((sort_decides t s).0 same))
+
+only_sort : (s t : Sort) → is_sort_among (t ∷ []) s ≡ true → same_sort s t ≡ true
+only_sort s t among = elim (or_cases (same_sort t s) false among) [ inl same ↦ turned s t same | inr none ↦ absurd (false≢true none) ]
+
+either_sort : (s t u : Sort) → is_sort_among (t ∷ u ∷ []) s ≡ true → (same_sort s t || same_sort s u) ≡ true
+either_sort s t u among = elim (or_cases (same_sort t s) (same_sort u s || false) among) [
+  | inl same ↦ or_left (same_sort s t) (same_sort s u) (turned s t same)
+  | inr other ↦ or_right (same_sort s t) (same_sort s u) (only_sort s u other)
+]
+
+-- ---- what no cause of a label says
+
+label_suits : (wanted : Wanted) (l : Label Text) (b : Option (List (Kind Text))) (ps : Phrases) → misfits no_names wanted (Labelled l b ps) ≡ []
+    → suits wanted l.word (sort_of_label l) ≡ true
+label_suits wanted l b ps fits =
+    let own = both_empty _ _ (both_empty _ _ (both_empty _ _ fits).0).0 in
+    unless_empty _ WrongSort (both_empty _ _ own.0).0
+
+kids_fit : (wanted : Wanted) (l : Label Text) (b : Option (List (Kind Text))) (ps : Phrases) → misfits no_names wanted (Labelled l b ps) ≡ []
+    → each_misfits no_names (places no_names wanted l).first (places no_names wanted l).further ps ≡ []
+kids_fit wanted l b ps fits = (both_empty _ _ fits).1
+
+kids_known : (l : Label Text) (b : Option (List (Kind Text))) (ps : Phrases) → unknown_in no_names None (Labelled l b ps) ≡ [] → unknown_each no_names None ps ≡ []
+kids_known l b ps known = (both_empty _ _ known).1
+
+-- what the kids are wanted to be goes by their forms
+forms_wanted : (fields : List (Field Text)) (parts : List Part) → kids_wanted no_names fields parts ≡ map (kid_wanted no_names fields) (kid_forms parts)
+forms_wanted fields [] = refl
+forms_wanted fields (Fixed word ∷ parts) = forms_wanted fields parts
+forms_wanted fields (ForGroup ∷ parts) = forms_wanted fields parts
+forms_wanted fields (AField form ∷ parts) = forms_wanted fields parts
+forms_wanted fields (AKid form ∷ parts) = ap (λ ws. kid_wanted no_names fields form ∷ ws) (forms_wanted fields parts)
+
+-- ---- phrases
+
+mutual
+  made : (sorts : List Sort) (p : Phrase) → is_formed p ≡ true → unknown_in no_names None p ≡ [] → misfits no_names (OfSorts sorts) p ≡ []
+      → (is_makeable p ≡ true) × (is_sort_among sorts (phrase_sort p) ≡ true)
+  made sorts (Name name) formed known fits = absurd (true≢false (ap has_some known))
+  made sorts (Labelled l b ps) formed known fits =
+      let label = and_parts _ _ formed in
+      let all_made = among_passes has_made_kids label_words l.word kids_are_made (and_parts _ _ label.0).0 in
+      let fields = fields_counted no_names l in
+      let kids = subst (λ ws. each_misfits no_names ws an_argument ps ≡ []) (forms_wanted fields (row l.word).parts) (kids_fit (OfSorts sorts) l b ps fits) in
+      (and_from _ _ label.0 (kids_made fields (kid_forms (row l.word).parts) ps all_made label.1 (kids_known l b ps known) kids), label_suits (OfSorts sorts) l b ps fits)
+
+  kids_made : (fields : List (Field Text)) (forms : List KidForm) (ps : Phrases) → list_all is_made forms ≡ true → kids_formed forms ps ≡ true → unknown_each no_names None ps ≡ []
+      → each_misfits no_names (map (kid_wanted no_names fields) forms) an_argument ps ≡ [] → kids_makeable forms ps ≡ true
+  kids_made fields [] NoPhrase all formed known fits = refl
+  kids_made fields (OneOf sort ∷ forms) (ThenPhrase p ps) all formed known fits =
+      let f = and_parts _ _ formed in
+      let k = both_empty _ _ known in
+      let m = both_empty _ _ fits in
+      let kid = made (sort ∷ []) p f.0 k.0 m.0 in
+      and_from _ _ (and_from _ _ kid.0 (only_sort (phrase_sort p) sort kid.1)) (kids_made fields forms ps all f.1 k.1 m.1)
+  kids_made fields (TypeOrConstant ∷ forms) (ThenPhrase p ps) all formed known fits =
+      let f = and_parts _ _ formed in
+      let k = both_empty _ _ known in
+      let m = both_empty _ _ fits in
+      let kid = made (OfType ∷ OfConstant ∷ []) p f.0 k.0 m.0 in
+      and_from _ _ (and_from _ _ kid.0 (either_sort (phrase_sort p) OfType OfConstant kid.1)) (kids_made fields forms ps all f.1 k.1 m.1)
+  kids_made fields (ListOf list sort empty ∷ forms) (ThenPhrase p ps) all formed known fits =
+      let f = and_parts _ _ formed in
+      let k = both_empty _ _ known in
+      let m = both_empty _ _ fits in
+      and_from _ _ (list_made list sort (empty_cause empty) p f.0 k.0 m.0) (kids_made fields forms ps all f.1 k.1 m.1)
+  kids_made fields (ArgumentsOf count ∷ forms) (ThenPhrase p ps) all formed known fits = absurd (false≢true all)
+  kids_made fields forms ps all formed known fits = absurd (false≢true formed)
+
+  list_made : (list : Word) (sort : Sort) (if_empty : Option Cause) (p : Phrase) → is_list_formed list p ≡ true → unknown_in no_names None p ≡ []
+      → misfits no_names (Members sort if_empty) p ≡ [] → is_list_makeable list sort p ≡ true
+  list_made list sort if_empty (Name name) formed known fits = absurd (false≢true formed)
+  list_made list sort if_empty (Labelled l b ps) formed known fits =
+      let label = and_parts _ _ formed in
+      and_from _ _ label.0 (members_made sort ps label.1 (kids_known l b ps known) (kids_fit (Members sort if_empty) l b ps fits))
+
+  members_made : (sort : Sort) (ps : Phrases) → all_formed ps ≡ true → unknown_each no_names None ps ≡ [] → each_misfits no_names [] (OfSorts (sort ∷ [])) ps ≡ [] → all_makeable sort ps ≡ true
+  members_made sort NoPhrase formed known fits = refl
+  members_made sort (ThenPhrase p ps) formed known fits =
+      let f = and_parts _ _ formed in
+      let k = both_empty _ _ known in
+      let m = both_empty _ _ fits in
+      let member = made (sort ∷ []) p f.0 k.0 m.0 in
+      and_from _ _ (and_from _ _ member.0 (only_sort (phrase_sort p) sort member.1)) (members_made sort ps f.1 k.1 m.1)
+
+-- an operand in which no stage before the making met a cause is that of a type or a region, and can be made
+pub operand_makeable : (p : Phrase) → is_formed p ≡ true → unknown_in no_names None p ≡ [] → misfits no_names operand p ≡ [] → is_operand p ≡ true
+operand_makeable (Name name) formed known fits = absurd (true≢false (ap has_some known))
+operand_makeable (Labelled l b ps) formed known fits =
+    let word = (and_parts _ _ (and_parts _ _ formed).0).0 in
+    let test = among_passes has_operand_sort label_words l.word operands_are_made word in
+    let sorts = OfType ∷ OfRegion ∷ OfConstant ∷ OfPattern ∷ OfPredicate ∷ [] in
+    and_from _ _ (made sorts (Labelled l b ps) formed known fits).0 (operand_sort l.word (row l.word).sort (sort_of_fields l.fields) test (label_suits operand l b ps fits))

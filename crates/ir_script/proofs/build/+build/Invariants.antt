@@ -1,0 +1,7 @@
+use Rattle.std.proofs.Common.{take}
+use Rattle.ir_table.specs.Interner.{state}
+use Rattle.ir_script.proofs.BuildLemmas.{BuiltSoFar}
+use Rattle.ir_script.proofs.build.+build.Given as goal
+
+abbrev pub invariant-build_all-loop-kid : goal.invariant-build_all-loop-kid
+invariant-build_all-loop-kid l = BuiltSoFar (state l.fn.cx) (state l.cx) (take l.kid-index l.kids) l.parts.items

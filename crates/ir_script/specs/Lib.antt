@@ -1,0 +1,10 @@
+pub mod Views
+pub mod Phrases
+pub mod Nesting
+pub mod Lines
+pub mod Causes
+pub mod Wanted
+pub mod Makeable
+pub mod Built
+pub mod Answered
+pub mod Plain

@@ -1,0 +1,136 @@
+//! What a script answers.
+ghost use Rattle.ir_core.specs.declared.handles.Part.{Part as PartSeen};
+ghost use Rattle.ir_laws.specs.Answer.{answer as answer_of};
+ghost use Rattle.ir_laws.specs.Form.{Print, form_of};
+ghost use Rattle.ir_laws.specs.Formed.{is_formed};
+ghost use Rattle.ir_laws.specs.Limits.{capped};
+ghost use Rattle.ir_script.specs.Answered.{AllowsFault, AllowsText, AnswersForm};
+ghost use Rattle.ir_script.specs.Makeable.{is_operand};
+ghost use Rattle.ir_script.specs.Phrases.{phrase_seen};
+ghost use Rattle.ir_table.specs.Fits.{part_sort};
+ghost use Rattle.ir_table.specs.Interner.{state};
+ghost use Rattle.ir_table.specs.Limits.{limits_seen};
+ghost use Rattle.ir_table.specs.Spelled.{part_of};
+ghost use Rattle.std.specs.Prelude.{◌≡◌, ◌≢◌, ◌^◌, ◌<◌, true, Some, length, IfErr, IfOk};
+ghost use Rattle.ir_laws.specs.declared.labels.Sort.TheVariants.{OfList};
+
+use crate::build::build;
+use crate::causes::{Cause, ScriptError};
+use crate::expression::expressions;
+use crate::grammar::form_of_items;
+use crate::lines::line_end;
+use crate::names::unknown_name;
+use crate::phrases::{Form, Phrase};
+use crate::places::misfit;
+use ir_core::{AnyTerm, Limits, Part, Text};
+use ir_table::{Interner, NoNames, spell};
+use std::alloc::Global;
+
+#[cfg(test)]
+mod tests;
+
+// The cap of the limit on sizes.
+const LARGEST: u64 = 1 << 48;
+
+/// What a script answers: the lines that its commands write, and the interner in which its terms stand.
+#[derive(Drop)]
+pub struct Answered {
+    pub text: Text,
+    pub cx: Interner,
+}
+
+// The term that the part is.
+fn term_of(part: Part) -> AnyTerm
+    requires { part_sort part ≢ OfList }
+    ensures { part_of result ≡ part }
+{
+    match part {
+        Part::Ty(ty) => AnyTerm::Ty(ty),
+        Part::Region(region) => AnyTerm::Region(region),
+        Part::Tys(_) => unreachable!(),
+    }
+}
+
+// The line of `print`: the term's spelling.
+fn print(
+    alloc: Global,
+    cx: &mut Interner,
+    limits: &Limits,
+    phrase: &Phrase,
+    out: &mut Text,
+) -> Result<(), Cause>
+    requires formed { is_formed (phrase_seen phrase.now) ≡ true }
+    requires high { (state cx.old).high ≡ (capped (limits_seen limits.now)).height }
+    ensures answers { AnswersForm (capped (limits_seen limits.now)) (Some (Print (phrase_seen phrase.now))) out.old out.new result }
+    ensures high { (state cx.new).high ≡ (state cx.old).high }
+{
+    if unknown_name(phrase) {
+        return Err(Cause::Unknown);
+    }
+    if let Some(cause) = misfit(phrase) {
+        return Err(cause);
+    }
+    let part = match build(alloc, cx, phrase) {
+        Ok(part) => part,
+        Err(error) => return Err(Cause::from(error)),
+    };
+    if cx.size_of(part) > limits.size.min(LARGEST) {
+        return Err(Cause::TooLarge);
+    }
+    spell(alloc, cx, &NoNames, term_of(part), out)?;
+    out.append(b"\n")?;
+    Ok(())
+}
+
+// What one line answers, put behind the text so far.
+fn answer_line(
+    alloc: Global,
+    cx: &mut Interner,
+    limits: &Limits,
+    line: &[u8],
+    out: &mut Text,
+) -> Result<(), Cause>
+    requires { (state cx.old).high ≡ (capped (limits_seen limits.now)).height }
+    ensures answers { AnswersForm (capped (limits_seen limits.now)) (form_of line.now) out.old out.new result }
+    ensures high { (state cx.new).high ≡ (state cx.old).high }
+{
+    let Some(items) = expressions(alloc, line)? else {
+        return Err(Cause::Syntax);
+    };
+    match form_of_items(alloc, items.as_slice())? {
+        None => Err(Cause::Syntax),
+        Some(Form::Blank) => Ok(()),
+        Some(Form::Print(phrase)) => print(alloc, cx, limits, &phrase, out),
+    }
+}
+
+/// What the script answers: its lines are taken in order, and the first that meets a cause ends it with that line's number and a cause of its earliest stage. Line 0 is the start. Only want of memory, and as long as parts aren't counted TooMany, come without a clause.
+pub fn answer(alloc: Global, script: &[u8], limits: &Limits) -> Result<Answered, ScriptError>
+    ensures ok { IfOk result (λ a. AllowsText (answer_of (limits_seen limits.now) script.now) a.text) }
+    ensures fault { IfErr result (AllowsFault (answer_of (limits_seen limits.now) script.now)) }
+{
+    let mut cx = match Interner::new(alloc, *limits) {
+        Ok(cx) => cx,
+        Err(error) => {
+            return Err(ScriptError {
+                line: 0,
+                cause: Cause::from(error),
+            });
+        }
+    };
+    let mut text = Text::new(alloc);
+    let mut start = 0;
+    let mut number: u64 = 0;
+    while start < script.len() {
+        let end = line_end(script, start);
+        number += 1;
+        if let Err(cause) = answer_line(alloc, &mut cx, limits, &script[start..end], &mut text) {
+            return Err(ScriptError {
+                line: number,
+                cause,
+            });
+        }
+        start = end + 1;
+    }
+    Ok(Answered { text, cx })
+}

@@ -1,0 +1,131 @@
+//! Scripts, with what each answers.
+use super::answer;
+use crate::{Cause, ScriptError, read_line};
+use ir_core::{Limits, R, Text};
+use std::alloc::Global;
+use std::test::Fail;
+
+const LIMITS: Limits = Limits {
+    index: 65_535,
+    number: 65_535,
+    height: 512,
+    nodes: 1_000_000,
+    size: 1 << 48,
+};
+
+// The script's lines, or its fault.
+fn answered(alloc: Global, script: &[u8]) -> Result<Text, ScriptError> {
+    answer(alloc, script, &LIMITS).map(|answered| answered.text)
+}
+
+// Whether the script answers these lines.
+fn gives(alloc: Global, script: &[u8], lines: &[u8]) -> bool {
+    match answered(alloc, script) {
+        Ok(text) => text.as_bytes() == lines,
+        Err(_) => false,
+    }
+}
+
+// The script's fault.
+fn fault(alloc: Global, script: &[u8]) -> Option<(u64, Cause)> {
+    answered(alloc, script)
+        .err()
+        .map(|error| (error.line, error.cause))
+}
+
+// The text, so often.
+fn repeated(alloc: Global, bytes: &[u8], times: u32) -> R<Text> {
+    let mut text = Text::new(alloc);
+    for _ in 0..times {
+        text.append(bytes)?;
+    }
+    Ok(text)
+}
+
+// A reference to a reference to so many more, and at last to `u8`.
+fn nested(alloc: Global, references: u32) -> R<Text> {
+    let mut term = repeated(alloc, b"(ref not static ", references)?;
+    term.append(b"u8")?;
+    term.append(repeated(alloc, b")", references)?.as_bytes())?;
+    Ok(term)
+}
+
+// The text between two others.
+fn between(alloc: Global, before: &[u8], text: &Text, after: &[u8]) -> R<Text> {
+    let mut whole = Text::from_bytes(alloc, before)?;
+    whole.append(text.as_bytes())?;
+    whole.append(after)?;
+    Ok(whole)
+}
+
+#[test]
+fn terms_are_printed(rt: HostRuntime) {
+    let alloc = rt.alloc();
+    assert!(rt; gives(alloc, b"", b""));
+    assert!(rt; gives(alloc, b"\n \n\n", b""));
+    assert!(rt;
+        gives(
+            alloc,
+            b"print (ref not static u8)",
+            b"(ref not static u8)\n"
+        )
+    );
+    assert!(rt; gives(alloc, b"print static\nprint erased\n", b"static\nerased\n"));
+    assert!(rt; gives(alloc, b"  print ( tuple  ( ) )  ", b"(tuple ())\n"));
+    assert!(rt;
+        gives(
+            alloc,
+            b"print (tuple (u8 (tuple (bool)) u8))",
+            b"(tuple (u8 (tuple (bool)) u8))\n"
+        )
+    );
+}
+
+#[test]
+fn the_first_fault_ends_a_script(rt: HostRuntime) {
+    let alloc = rt.alloc();
+    assert_eq!(rt;
+        fault(alloc, b"print (tuple (static))"),
+        Some((1, Cause::Sort))
+    );
+    assert_eq!(rt;
+        fault(alloc, b"print u8\nprint X\nprint"),
+        Some((2, Cause::Unknown))
+    );
+    assert_eq!(rt;
+        fault(alloc, b"\nprint (array u8 u8)"),
+        Some((2, Cause::Syntax))
+    );
+    assert_eq!(rt; fault(alloc, b"print u8\r"), Some((1, Cause::Syntax)));
+    assert_eq!(rt; fault(alloc, b"print\tu8"), Some((1, Cause::Syntax)));
+    assert_eq!(rt; fault(alloc, b"print \x7f"), Some((1, Cause::Syntax)));
+    assert_eq!(rt; fault(alloc, b"print u8)"), Some((1, Cause::Syntax)));
+}
+
+#[test]
+fn nesting_is_limited(rt: HostRuntime) -> Result<(), Fail> {
+    let alloc = rt.alloc();
+    let term = nested(alloc, 256)?;
+    let deepest = between(alloc, b"print ", &term, b"")?;
+    let printed = between(alloc, b"", &term, b"\n")?;
+    assert!(rt; gives(alloc, deepest.as_bytes(), printed.as_bytes()));
+    let too_deep = between(alloc, b"print (tuple (", &nested(alloc, 255)?, b"))")?;
+    assert_eq!(rt; fault(alloc, too_deep.as_bytes()), Some((1, Cause::Syntax)));
+    assert!(rt; read_line(alloc, deepest.as_bytes()).is_ok());
+    assert!(rt; read_line(alloc, too_deep.as_bytes()).is_err());
+    Ok(())
+}
+
+#[test]
+fn many_lines_are_answered(rt: HostRuntime) -> Result<(), Fail> {
+    let alloc = rt.alloc();
+    let mut script = repeated(alloc, b"print (tuple (u8 bool))\n", 10_000)?;
+    let lines = repeated(alloc, b"(tuple (u8 bool))\n", 10_000)?;
+    assert!(rt; gives(alloc, script.as_bytes(), lines.as_bytes()));
+    script.append(b"print (tuple (u8 static))")?;
+    assert_eq!(rt;
+        fault(alloc, script.as_bytes()),
+        Some((10_001, Cause::Sort))
+    );
+    Ok(())
+}

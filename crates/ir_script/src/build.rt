@@ -1,0 +1,147 @@
+//! The making of terms: from phrases in which no name is looked up to parts of an interner.
+ghost use Rattle.ir_core.specs.declared.handles.Part.TheVariants as part;
+ghost use Rattle.ir_laws.specs.Counts.{heights};
+ghost use Rattle.ir_laws.specs.Environment.{field_in, trees_of};
+ghost use Rattle.ir_laws.specs.Heap.{Each, Grows, IsLive, forest, tree_of};
+ghost use Rattle.ir_laws.specs.Phrase.{Labelled, NoPhrase, each_of};
+ghost use Rattle.ir_laws.specs.declared.labels.Sort.TheVariants.{OfType};
+ghost use Rattle.ir_script.specs.Built.{Builds};
+ghost use Rattle.ir_script.specs.Causes.{no_names};
+ghost use Rattle.ir_script.specs.Makeable.{is_buildable, phrase_sort};
+ghost use Rattle.ir_script.specs.Phrases.{field_seen, phrase_seen, phrases_seen};
+ghost use Rattle.ir_table.specs.Fits.{part_sort};
+ghost use Rattle.ir_table.specs.Interner.{heap, state};
+ghost use Rattle.ir_table.specs.Kinds as table;
+ghost use Rattle.ir_table.specs.State.{IsRefusal};
+ghost use Rattle.std.specs.List.{list_all};
+ghost use Rattle.std.specs.Prelude.{◌≡◌, ◌<◌, [], true, Some, Err, map as mapped, IfErr, IfOk, IfSome, OnErr};
+
+use crate::phrases::{Field, Phrase};
+use ir_core::{Part, R, TermError, Ty, Tys};
+use ir_laws::Word;
+use ir_table::{Handle, InternList, Interner, kind_of};
+use std::alloc::Global;
+
+/// The types that these parts are.
+fn types_of(alloc: Global, parts: &[Part]) -> R<Vec<Ty>>
+    requires { Each (λ p. part_sort p ≡ OfType) parts.now }
+    ensures types { IfOk result (λ ts. mapped part.Ty ts.items ≡ parts.now) }
+    ensures err { OnErr result (result ≡ Err TermError.Memory) }
+{
+    let mut types = Vec::new(alloc);
+    for part in parts {
+        match part {
+            Part::Ty(ty) => types.push(*ty)?,
+            _ => unreachable!(),
+        }
+    }
+    Ok(types)
+}
+
+/// The fields as the interner has them.
+fn fields_of(alloc: Global, fields: &[Field]) -> R<Vec<ir_table::Field>>
+    ensures fields { IfOk result (λ fs. each_of (field_in no_names) (mapped field_seen fields.now) ≡ Some (mapped table.field_seen fs.items)) }
+    ensures err { OnErr result (result ≡ Err TermError.Memory) }
+{
+    let mut seen = Vec::new(alloc);
+    for field in fields {
+        match field {
+            Field::Chosen(word) => seen.push(ir_table::Field::Chosen(*word))?,
+        }
+    }
+    Ok(seen)
+}
+
+/// The part of the phrase's tree.
+#[cycle(build)]
+pub(crate) fn build(alloc: Global, cx: &mut Interner, phrase: &Phrase) -> R<Part>
+    requires { is_buildable (phrase_seen phrase.now) ≡ true }
+    ensures { Builds (state cx.old) (state cx.new) (phrase_seen phrase.now) result }
+{
+    let Phrase::Labelled(word, fields, kids) = phrase else {
+        unreachable!()
+    };
+    let parts = build_all(alloc, cx, kids)?;
+    match word {
+        Word::TypeList => {
+            let types = types_of(alloc, &parts)?;
+            let list = Tys::new_from_slice(cx, &types)?;
+            Ok(list.as_part())
+        }
+        _ => {
+            let seen = fields_of(alloc, fields)?;
+            cx.part_of(kind_of(*word, &seen, &parts))
+        }
+    }
+}
+
+/// The parts of the phrases' trees.
+#[cycle(build)]
+fn build_all(alloc: Global, cx: &mut Interner, kids: &[Phrase]) -> R<Vec<Part>>
+    requires { list_all (λ p. is_buildable (phrase_seen p)) kids.now ≡ true }
+    ensures live { IfOk result (λ parts. Each (IsLive (heap cx.new)) parts.items) }
+    ensures trees { IfOk result (λ parts. trees_of no_names (phrases_seen kids.now) ≡ Some (forest (tree_of (heap cx.new)) parts.items)) }
+    ensures sorts { IfOk result (λ parts. mapped part_sort parts.items ≡ mapped (λ p. phrase_sort (phrase_seen p)) kids.now) }
+    ensures grows { Grows (heap cx.old) (heap cx.new) }
+    ensures too_deep { result ≡ Err TermError.TooDeep → IfSome (trees_of no_names (phrases_seen kids.now)) (λ ts. (state cx.old).high < heights ts) }
+    ensures causes { IfErr result IsRefusal }
+    ensures nodes { (state cx.new).nodes ≡ (state cx.old).nodes }
+    ensures high { (state cx.new).high ≡ (state cx.old).high }
+{
+    let mut parts = Vec::new(alloc);
+    for kid in kids {
+        let part = build(alloc, cx, kid)?;
+        parts.push(part)?;
+    }
+    Ok(parts)
+}
+
+#[cfg(test)]
+mod tests {
+    use super::*;
+    use ir_core::Limits;
+    use ir_laws::Keyword;
+    use std::test::Fail;
+
+    const LIMITS: Limits = Limits {
+        index: 9,
+        number: 9,
+        height: 9,
+        nodes: 99,
+        size: 99,
+    };
+
+    fn node(word: Word, fields: Vec<Field>, kids: Vec<Phrase>) -> Phrase
+        ensures { phrase_seen result ≡ Labelled (record { word = word; fields = mapped field_seen fields.items }) None (phrases_seen kids.items) }
+    {
+        Phrase::Labelled(word, fields, kids)
+    }
+
+    fn leaf(alloc: Global, word: Word) -> Phrase
+        ensures { phrase_seen result ≡ Labelled (record { word = word; fields = [] }) None NoPhrase }
+    {
+        node(word, Vec::new(alloc), Vec::new(alloc))
+    }
+
+    // Whether the part of `(tuple ((ref not static u8) bool))` is a type.
+    fn is_type(alloc: Global) -> R<bool> {
+        let fields = vec![in alloc; Field::Chosen(Keyword::Not)]?;
+        let kids = vec![in alloc; leaf(alloc, Word::StaticRegion), leaf(alloc, Word::U8Type)]?;
+        let reference = node(Word::ReferenceType, fields, kids);
+        let members = vec![in alloc; reference, leaf(alloc, Word::BoolType)]?;
+        let list = node(Word::TypeList, Vec::new(alloc), members);
+        let parts = vec![in alloc; list]?;
+        let tuple = node(Word::TupleType, Vec::new(alloc), parts);
+        let mut cx = Interner::new(alloc, LIMITS)?;
+        match build(alloc, &mut cx, &tuple)? {
+            Part::Ty(_) => Ok(true),
+            _ => Ok(false),
+        }
+    }
+
+    #[test]
+    fn a_tuple_is_a_type(rt: HostRuntime) -> Result<(), Fail> {
+        assert!(rt; is_type(rt.alloc())?);
+        Ok(())
+    }
+}

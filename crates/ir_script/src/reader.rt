@@ -1,0 +1,32 @@
+//! One line of a script as its words and groups.
+ghost use Rattle.ir_laws.specs.Expression.{expressions as expressions_of};
+ghost use Rattle.ir_laws.specs.Form.{form_of};
+ghost use Rattle.ir_script.specs.Views.{exprs_in, items_of};
+ghost use Rattle.std.specs.Prelude.{◌≡◌, ◌⊎◌, None, Some, IfErr, IfOk, IsSome, OnOk};
+
+use crate::causes::Cause;
+use crate::expression::{Exprs, expressions};
+use crate::grammar::form_of_items;
+use std::alloc::Global;
+
+/// A line that has a form of the grammar.
+#[derive(Drop)]
+pub struct Line {
+    /// Its words and groups, in order; none for a blank line.
+    pub parts: Exprs,
+}
+
+/// The words and groups of the line. Syntax comes exactly where the line has no form of the grammar, unless memory is wanted.
+pub fn read_line(alloc: Global, line: &[u8]) -> Result<Line, Cause>
+    ensures parts { IfOk result (λ l. expressions_of line.now ≡ Some (exprs_in (items_of l.parts))) }
+    ensures form { OnOk result (IsSome (form_of line.now)) }
+    ensures refusal { IfErr result (λ c. (c ≡ Cause.Memory) ⊎ ((c ≡ Cause.Syntax) × (form_of line.now ≡ None))) }
+{
+    let Some(parts) = expressions(alloc, line)? else {
+        return Err(Cause::Syntax);
+    };
+    if form_of_items(alloc, parts.as_slice())?.is_none() {
+        return Err(Cause::Syntax);
+    }
+    Ok(Line { parts })
+}
