@@ -1,0 +1,30 @@
+-- What a run of the program without words leaves.
+use Rattle.std.specs.Prelude.{◌≡◌, ◌≢◌, [], ◌∷◌, ◌++◌, Option, Some, IfSome, codes}
+use Rattle.std.specs.Io.KnownBytes.{append_known}
+use Rattle.ir_core.specs.declared.limit.Limits.{Limits}
+use Rattle.ir_laws.specs.Answer.{answer}
+use Rattle.ir_laws.specs.Numeral.{numeral}
+use Rattle.ir_laws.specs.Tree.{Text}
+use Rattle.ir_script.specs.Answered.{AllowsFault, AllowsText}
+use Rattle.ir_script.specs.Causes.{name_seen}
+use Rattle.ir_script.specs.declared.causes.Cause.TheVariants.{Memory}
+use Rattle.ir_script.specs.declared.causes.ScriptError.{ScriptError}
+use Rattle.ir_table.specs.Limits.{limits_seen}
+
+-- the line that a fault writes
+abbrev pub fault_text : ScriptError → Text
+fault_text e = codes "error line " ++ numeral e.line ++ codes " " ++ name_seen e.cause ++ 10 ∷ []
+
+-- Where the source told what was left: it was read to its end, and the sink holds what it held and then the text that the script answers
+abbrev pub IsAnswered : Limits → (left left' : Option Text) (held held' : Option Text) → Type 0
+IsAnswered limits left left' held held' =
+    IfSome left (λ script. (left' ≡ Some []) × ((text : Text) × AllowsText (answer (limits_seen limits) script) text × (held' ≡ append_known held text)))
+
+-- the same with the line of a fault that the script has
+abbrev pub IsRefused : Limits → (left left' : Option Text) (held held' : Option Text) → Type 0
+IsRefused limits left left' held held' =
+    IfSome left (λ script. (left' ≡ Some []) × ((e : ScriptError) × AllowsFault (answer (limits_seen limits) script) e × (e.cause ≢ Memory) × (held' ≡ append_known held (fault_text e))))
+
+-- the sink holds what it held, and then some bytes
+abbrev pub IsCutShort : Option Text → Option Text → Type 0
+IsCutShort held held' = (front : Text) × (held' ≡ append_known held front)
