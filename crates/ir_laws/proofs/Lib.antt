@@ -21,3 +21,4 @@ mod AnswerRows
 mod CommandRows
 mod TermRows
 mod SortRows
+pub mod NumeralRows
