@@ -44,18 +44,9 @@ use Rattle.ir_script.specs.Causes.{no_names}
 use Rattle.ir_script.specs.Makeable.{phrase_sort, is_makeable, kids_makeable, is_list_makeable, all_makeable, is_buildable}
 use Rattle.ir_script.specs.Phrases.{field_seen, phrase_seen, phrases_seen}
 use Rattle.ir_script.proofs.KidLemmas.{labelled, seen_labelled}
+use Rattle.ir_script.proofs.MakeableLemmas.{among_passes}
 
 -- ---- words that are built
-
--- a word of the list passes each test that the whole list passes
-among_passes : (q : Word → Bool) (ws : List Word) (w : Word) → list_all q ws ≡ true → is_word_among ws w ≡ true → q w ≡ true
-among_passes q [] w all here = absurd (false≢true here)
-among_passes q (v ∷ vs) w all here =
-    let each = and_parts (q v) (list_all q vs) all in
-    elim (or_cases (same_word v w) (is_word_among vs w) here) [
-      | inl same ↦ subst (λ (u : Word). q u ≡ true) ((word_decides v w).0 same) each.0
-      | inr behind ↦ among_passes q vs w each.1 behind
-    ]
 
 -- a label of the word has a node: it is no bound variable and no parameter
 abbrev is_node : Word → Bool

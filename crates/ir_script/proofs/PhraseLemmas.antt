@@ -4,7 +4,6 @@ use Rattle.std.specs.List.{list_all}
 use Rattle.std.proofs.lemmas.List.{drop_all}
 use Rattle.std.proofs.lemmas.List.Folds.{list_all_at}
 use denote.Param.Weighed.{most}
-use mathlib.Core.Former.{Count}
 use Rattle.ir_laws.specs.declared.words.Word.{Word}
 use Rattle.ir_laws.specs.declared.labels.FixedWord.{FixedWord}
 use Rattle.ir_laws.specs.declared.labels.FieldForm.{FieldForm}
@@ -25,44 +24,15 @@ use Rattle.ir_script.specs.declared.expression.Expr as code
 use Rattle.ir_script.specs.declared.expression.Exprs as list
 use Rattle.ir_script.specs.declared.phrases.Phrase as seen
 use Rattle.ir_script.specs.declared.phrases.Field.{Field}
-use Rattle.ir_script.specs.Views.{expr_of, exprs_of, exprs_in, items_of}
-use Rattle.ir_script.specs.Phrases.{field_seen, phrase_seen, row_seen, phrases_seen, is_built_field, is_built, are_built, labels_are_built, kid_in}
+use Rattle.ir_script.proofs.ExpressionLemmas.{expr_of-Group}
+use Rattle.ir_script.proofs.KidLemmas.{seen_labelled, labelled as label_of}
+use Rattle.ir_script.specs.Views.{expr_of, exprs_in, items_of}
+use Rattle.ir_script.specs.Phrases.{field_seen, phrase_seen, phrases_seen, is_built_field, is_built, are_built, labels_are_built, kid_in}
 
 -- ---- groups and labels
 
-row_of_group : code.Expr → (n : Count) × code.Row_of-Expr n
-row_of_group (code.Group' _ row) = (_, row)
-row_of_group _ = (_, code.end_of-Expr)
-
-row_exprs : (n : _) (row : code.Row_of-Expr n) → exprs_of row ≡ exprs_in (code.items-the_row-Expr n row)
-row_exprs n code.end_of-Expr = refl
-row_exprs n (code.more_of-Expr e es) = ap (ThenExpr (expr_of e)) (row_exprs _ es)
-
-pub group_seen : (es : list.Exprs) → expr_of (code.Group es) ≡ Group (exprs_in (items_of es))
-unfolding row_of_group
-group_seen es =
-    let row = row_of_group (code.Group es) in
-    ap Group (row_exprs row.0 row.1 ∙ ap exprs_in (code.items_hidden-the_row-Expr-0 es.items))
-
 pub group_is : (e : code.Expr) (es : list.Exprs) (items : List code.Expr) → e ≡ code.Group es → items ≡ items_of es → Group (exprs_in items) ≡ expr_of e
-group_is e es items is same = ap (λ items. Group (exprs_in items)) same ∙ sym (group_seen es) ∙ ap expr_of (sym is)
-
-row_of_kids : seen.Phrase → (n : Count) × seen.Row_of-Phrase n
-row_of_kids (seen.Labelled' w fs _ row) = (_, row)
-row_of_kids _ = (_, seen.end_of-Phrase)
-
-row_phrases : (n : _) (row : seen.Row_of-Phrase n) → row_seen row ≡ phrases_seen (seen.items-the_row-Phrase n row)
-row_phrases n seen.end_of-Phrase = refl
-row_phrases n (seen.more_of-Phrase p ps) = ap (ThenPhrase (phrase_seen p)) (row_phrases _ ps)
-
-abbrev pub label_of : Word → List Field → tree.Label Text
-label_of w fields = record { word = w; fields = map field_seen fields }
-
-pub labelled_seen : (w : Word) (fields : Vec Field Global) (kids : Vec seen.Phrase Global) → phrase_seen (seen.Labelled w fields kids) ≡ Labelled (label_of w fields.items) None (phrases_seen kids.items)
-unfolding row_of_kids
-labelled_seen w fields kids =
-    let row = row_of_kids (seen.Labelled w fields kids) in
-    ap (Labelled (label_of w fields.items) None) (row_phrases row.0 row.1 ∙ ap phrases_seen (seen.items_hidden-the_row-Phrase-0 kids))
+group_is e es items is same = ap (λ items. Group (exprs_in items)) same ∙ sym (expr_of-Group es) ∙ ap expr_of (sym is)
 
 -- ---- phrases and fields so far, before those that follow
 
@@ -231,10 +201,10 @@ list_read w item group items phrases is same read = ap (list_phrase w) (read ∙
 
 -- a label with no field
 pub fieldless : (w : Word) (fields : Vec Field Global) (kids : Vec seen.Phrase Global) → fields.items ≡ [] → phrase_seen (seen.Labelled w fields kids) ≡ Labelled (label_of w []) None (phrases_seen kids.items)
-fieldless w fields kids none = labelled_seen w fields kids ∙ ap (λ fields. Labelled (label_of w fields) None (phrases_seen kids.items)) none
+fieldless w fields kids none = seen_labelled w fields kids ∙ ap (λ fields. Labelled (label_of w fields) None (phrases_seen kids.items)) none
 
 pub all-labelled : (w : Word) (fields : Vec Field Global) (kids : Vec seen.Phrase Global) (all : Option Fitted) → all ≡ Some (fitted (map field_seen fields.items) (phrases_seen kids.items)) → Some (phrase_seen (seen.Labelled w fields kids)) ≡ labelled w all
-all-labelled w fields kids all is = ap Some (labelled_seen w fields kids) ∙ ap (labelled w) (sym is)
+all-labelled w fields kids all is = ap Some (seen_labelled w fields kids) ∙ ap (labelled w) (sym is)
 
 -- ---- the words of labels
 

@@ -61,7 +61,7 @@ impl Exprs {
     /// Puts an expression last. It is refused only for want of memory, and is then as it was.
     pub fn push(&mut self, item: Expr) -> R<()>
         ensures ok { OnOk result (items_of self.new ≡ items_of self.old ++ item ∷ []) }
-        ensures err { OnErr result (items_of self.new ≡ items_of self.old) }
+        ensures err { OnErr result ((items_of self.new ≡ items_of self.old) × (result ≡ Err TermError.Memory)) }
     {
         self.items.push(item)?;
         Ok(())

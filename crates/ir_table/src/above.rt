@@ -1,7 +1,7 @@
 //! What the calls of all sorts do.
 ghost use Rattle.ir_laws.specs.Counts.{size};
 ghost use Rattle.ir_laws.specs.Heap.{Each, IsLive, cached_height, cached_size, height_above, size_above, total, size_cap, tree_of};
-ghost use Rattle.ir_table.specs.Interner.{heap, state};
+ghost use Rattle.ir_table.specs.Interner.{asked, heap, state};
 ghost use Rattle.ir_table.specs.Kinds.{node_kids, node_shape, tys_shape, tys_kids};
 ghost use Rattle.ir_core.specs.declared.handles.Part.TheVariants as part;
 ghost use Rattle.std.specs.Prelude.{◌≡◌, ◌+◌, ◌<◌, ◌≤◌, ◌^◌, max, min};
@@ -40,6 +40,13 @@ impl Interner {
         ensures { result ≡ (state self.now).count }
     {
         (self.tys.len() + self.regions.len() + self.lists.len()) as u64
+    }
+
+    /// How many making calls were asked. It ends at its type's last value.
+    pub fn asked(&self) -> u64
+        ensures { result ≡ asked self.now }
+    {
+        self.asked
     }
 
     /// The size of the part's tree, which ends at 2^48 + 1.

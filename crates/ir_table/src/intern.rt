@@ -1,6 +1,6 @@
 //! What the sorts of parts have in common.
 ghost use Rattle.ir_laws.specs.Heap.{Shape, Each, IsLive, HasNode};
-ghost use Rattle.ir_table.specs.Interner.{heap, state};
+ghost use Rattle.ir_table.specs.Interner.{Asks, heap, state};
 ghost use Rattle.ir_table.specs.State.{NewAnswers};
 ghost use Rattle.ir_core.specs.declared.handles.Part.{Part};
 ghost use Rattle.std.specs.Prelude.{◌≡◌, ◌↔◌, length, List, IsTrue, map as mapped};
@@ -31,10 +31,11 @@ pub trait Intern: Handle {
 
     ghost kids: { Self.Kind → List Part };
 
-    /// The handle of the kind. It is the one that the kind had before, if it is held; then no memory is taken.
+    /// The handle of the kind. It counts as asked. It is the one that the kind had before, if it is held; then no memory is taken.
     fn new(cx: &mut Interner, kind: Self::Kind) -> R<Self>
         requires { Each (IsLive (heap cx.old)) (kids kind) }
-        ensures { NewAnswers Self.part (state cx.old) (state cx.new) (shape kind) (kids kind) result };
+        ensures answers { NewAnswers Self.part (state cx.old) (state cx.new) (shape kind) (kids kind) result }
+        ensures asked { Asks cx.old cx.new };
 
     /// The kind that was put in.
     fn kind(self, cx: &Interner) -> Self::Kind
@@ -53,10 +54,11 @@ pub trait InternList: Handle {
 
     ghost list_shape: { Shape };
 
-    /// The handle of the list. It is the one that the list had before, if it is held; then no memory is taken for up to eight items.
+    /// The handle of the list. It counts as asked. It is the one that the list had before, if it is held; then no memory is taken for up to eight items.
     fn new_from_slice(cx: &mut Interner, items: &[Self::Item]) -> R<Self>
         requires { Each (IsLive (heap cx.old)) (mapped Self.Item.part items.now) }
-        ensures { NewAnswers Self.part (state cx.old) (state cx.new) list_shape (mapped Self.Item.part items.now) result };
+        ensures answers { NewAnswers Self.part (state cx.old) (state cx.new) list_shape (mapped Self.Item.part items.now) result }
+        ensures asked { Asks cx.old cx.new };
 
     /// The items that were put in.
     fn as_slice<'a>(self, cx: &'a Interner) -> &'a [Self::Item]

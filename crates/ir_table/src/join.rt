@@ -2,7 +2,7 @@
 ghost use Rattle.ir_core.specs.declared.handles.Part.TheVariants as part;
 ghost use Rattle.ir_laws.specs.Heap.{Each, IsLive};
 ghost use Rattle.ir_table.specs.Fits.{FitsRow, kind_kids, kind_shape};
-ghost use Rattle.ir_table.specs.Interner.{heap, state};
+ghost use Rattle.ir_table.specs.Interner.{Asks, heap, state};
 ghost use Rattle.ir_table.specs.Kinds.{Fields, field_seen, mutability_word, shape};
 ghost use Rattle.ir_table.specs.State.{NewAnswers};
 ghost use Rattle.std.specs.Prelude.{◌≡◌, [], Some, map as mapped, slice_get};
@@ -89,7 +89,8 @@ impl Interner {
     /// The part of the kind.
     pub fn part_of(&mut self, kind: AnyKind) -> R<Part>
         requires { Each (IsLive (heap self.old)) (kind_kids kind) }
-        ensures { NewAnswers (λ p. p) (state self.old) (state self.new) (kind_shape kind) (kind_kids kind) result }
+        ensures answers { NewAnswers (λ p. p) (state self.old) (state self.new) (kind_shape kind) (kind_kids kind) result }
+        ensures asked { Asks self.old self.new }
     {
         match kind {
             AnyKind::Ty(kind) => Ok(Ty::new(self, kind)?.as_part()),

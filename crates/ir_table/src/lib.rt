@@ -46,6 +46,7 @@ pub struct Interner {
     lists: ListTable<SmallVec<Ty, 8>, Cached>,
     nodes: u64,
     high: u32,
+    asked: u64,
     alloc: Global,
     pub ghost sound: { IsSound (heap_of tys regions lists) } by { sound_prop (heap_of tys regions lists) },
     pub ghost few: { length tys + length regions + length lists ≤ nodes },

@@ -25,6 +25,7 @@ impl Intern for Region {
     ghost kids = { λ _. [] };
 
     fn new(cx: &mut Interner, kind: RegionKind) -> R<Region> {
+        cx.asked = cx.asked.saturating_add(1);
         if let Some(index) = cx.regions.find(&kind) {
             return Ok(Region {
                 position: index as u32,

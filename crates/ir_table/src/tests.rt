@@ -1,6 +1,6 @@
-//! Each table at types that it is used with.
-use crate::{Exact, ListKey, ListTable, Table};
-use ir_core::{IntTy, Ty, TyKind};
+//! Each table at types that it is used with, and an interner over them.
+use crate::{Exact, Intern, InternList, Interner, ListKey, ListTable, Table};
+use ir_core::{IntTy, Limits, TermError, Ty, TyKind, Tys};
 use smallvec::SmallVec;
 use std::alloc::{AllocError, Global};
 use std::test::Fail;
@@ -71,4 +71,32 @@ fn a_key_of_eight_items_takes_no_memory(rt: HostRuntime) {
     let nine = nine_types();
     let key: SmallVec<Ty, 8> = ListKey::from_slice(rt.alloc(), &nine[..8]).unwrap();
     assert_eq!(rt; ListKey::as_slice(&key), &nine[..8]);
+}
+
+#[test]
+fn a_held_list_is_asked_and_not_put_again(rt: HostRuntime) -> Result<(), Fail> {
+    let limits = Limits {
+        index: 65_535,
+        number: 65_535,
+        height: 512,
+        nodes: 6,
+        size: 1_000_000,
+    };
+    let mut cx = Interner::new(rt.alloc(), limits)?;
+    assert_eq!(rt; cx.asked(), 0);
+    assert_eq!(rt; cx.len(), 4);
+    let bool = Ty::new(&mut cx, TyKind::Bool)?;
+    let first = Tys::new_from_slice(&mut cx, &[bool, bool])?;
+    let second = Tys::new_from_slice(&mut cx, &[bool, bool])?;
+    assert_eq!(rt; first, second);
+    assert_eq!(rt; cx.asked(), 3);
+    assert_eq!(rt; cx.len(), 5);
+    assert!(rt; first.holds(&cx));
+    assert!(rt; !Tys { position: 1 }.holds(&cx));
+    assert_eq!(rt; first.len(&cx), 2);
+    let pair = Ty::new(&mut cx, TyKind::Tuple(first))?;
+    assert_eq!(rt; pair.kind(&cx), TyKind::Tuple(first));
+    assert_eq!(rt; Ty::new(&mut cx, TyKind::Never), Err(TermError::TooMany));
+    assert_eq!(rt; cx.len(), 6);
+    Ok(())
 }

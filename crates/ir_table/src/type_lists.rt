@@ -22,6 +22,7 @@ impl InternList for Tys {
     ghost list_shape = { tys_shape };
 
     fn new_from_slice(cx: &mut Interner, items: &[Ty]) -> R<Tys> {
+        cx.asked = cx.asked.saturating_add(1);
         let Ok(key) = <SmallVec<Ty, 8> as ListKey>::from_slice(cx.alloc, items) else {
             return Err(TermError::Memory);
         };

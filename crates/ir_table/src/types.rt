@@ -25,6 +25,7 @@ impl Intern for Ty {
     ghost kids = { ty_kids };
 
     fn new(cx: &mut Interner, kind: TyKind) -> R<Ty> {
+        cx.asked = cx.asked.saturating_add(1);
         if let Some(index) = cx.tys.find(&kind) {
             return Ok(Ty {
                 position: index as u32,

@@ -99,7 +99,6 @@ fn the_first_fault_ends_a_script(rt: HostRuntime) {
     assert_eq!(rt; fault(alloc, b"print u8\r"), Some((1, Cause::Syntax)));
     assert_eq!(rt; fault(alloc, b"print\tu8"), Some((1, Cause::Syntax)));
     assert_eq!(rt; fault(alloc, b"print \x7f"), Some((1, Cause::Syntax)));
-    assert_eq!(rt; fault(alloc, b"print u8)"), Some((1, Cause::Syntax)));
 }
 
 #[test]

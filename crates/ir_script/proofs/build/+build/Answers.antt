@@ -40,7 +40,7 @@ build-returns-in_err-list-in-TypeList t c =
     let kids = kids_built (state c.args.cx.now) (state c.build_all.new.cx) c.deref.result.now c.in_ok-parts.parts.items _ same c.in_ok-parts.ensures.live c.in_ok-parts.ensures.trees c.in_ok-parts.ensures.grows c.in_ok-parts.ensures.nodes c.in_ok-parts.ensures.high in
     let from = err_from_is_err_and c.from_residual-in_err-list-in-TypeList.result c.from_residual-in_err-list-in-TypeList.ensures.1 in
     subst (λ (r : Result Part TermError). Builds (state c.args.cx.now) (state c.new_from_slice.new.cx) (phrase_seen c.args.phrase.now) r) (sym (from.1 ∙ ap Err from.2))
-    (label_refused l _ _ _ _ kids _ (list_shape l c.in-TypeList.is) _ c.build_all.new.cx.sound c.in_err-list-in-TypeList.ensures)
+    (label_refused l _ _ _ _ kids _ (list_shape l c.in-TypeList.is) _ c.build_all.new.cx.sound c.in_err-list-in-TypeList.ensures.answers)
 
 pub build-returns-in-TypeList : goal.build-returns-in-TypeList
 build-returns-in-TypeList t c =
@@ -49,7 +49,7 @@ build-returns-in-TypeList t c =
     let kids = kids_built (state c.args.cx.now) (state c.build_all.new.cx) c.deref.result.now c.in_ok-parts.parts.items _ same c.in_ok-parts.ensures.live c.in_ok-parts.ensures.trees c.in_ok-parts.ensures.grows c.in_ok-parts.ensures.nodes c.in_ok-parts.ensures.high in
     let cx = c.new_from_slice.new.cx in
     subst (λ (q : Part). Builds (state c.args.cx.now) (state c.new_from_slice.new.cx) (phrase_seen c.args.phrase.now) (Ok q)) (sym c.as_part.ensures)
-    (label_made l _ _ _ _ kids _ (list_shape l c.in-TypeList.is) _ (live_sort cx.tys cx.regions cx.lists cx.sound) c.in_ok-list-in-TypeList.ensures)
+    (label_made l _ _ _ _ kids _ (list_shape l c.in-TypeList.is) _ (live_sort cx.tys cx.regions cx.lists cx.sound) c.in_ok-list-in-TypeList.ensures.answers)
 
 pub build-kind_of-requires : goal.build-kind_of-requires
 build-kind_of-requires t c =
@@ -64,7 +64,7 @@ build-returns t c =
     let same = c.kind_of.ensures.kids ∙ c.deref-in_default-word-3.ensures.value in
     let kids = kids_built (state c.args.cx.now) (state c.build_all.new.cx) c.deref.result.now c.in_ok-parts.parts.items _ same c.in_ok-parts.ensures.live c.in_ok-parts.ensures.trees c.in_ok-parts.ensures.grows c.in_ok-parts.ensures.nodes c.in_ok-parts.ensures.high in
     let cx = c.part_of.new.self in
-    label_answers l _ _ _ _ kids _ (label_shape l _ _ c.kind_of.ensures.shape fields) _ c.build_all.new.cx.sound (live_sort cx.tys cx.regions cx.lists cx.sound) c.part_of.ensures
+    label_answers l _ _ _ _ kids _ (label_shape l _ _ c.kind_of.ensures.shape fields) _ c.build_all.new.cx.sound (live_sort cx.tys cx.regions cx.lists cx.sound) c.part_of.ensures.answers
 
 -- ---- the kids
 
