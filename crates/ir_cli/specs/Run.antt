@@ -1,6 +1,7 @@
 -- What a run of the program without words leaves.
-use Rattle.std.specs.Prelude.{◌≡◌, ◌≢◌, [], ◌∷◌, ◌++◌, Option, Some, IfSome, codes}
+use Rattle.std.specs.Prelude.{◌≡◌, ◌≢◌, ◌⊎◌, [], ◌∷◌, ◌++◌, Option, Some, IfSome, codes}
 use Rattle.std.specs.Io.KnownBytes.{append_known}
+use Rattle.ir_core.specs.Streams.{HoldsFront}
 use Rattle.ir_core.specs.declared.limit.Limits.{Limits}
 use Rattle.ir_laws.specs.Answer.{answer}
 use Rattle.ir_laws.specs.Numeral.{numeral}
@@ -25,6 +26,11 @@ abbrev pub IsRefused : Limits → (left left' : Option Text) (held held' : Optio
 IsRefused limits left left' held held' =
     IfSome left (λ script. (left' ≡ Some []) × ((e : ScriptError) × AllowsFault (answer (limits_seen limits) script) e × (e.cause ≢ Memory) × (held' ≡ append_known held (fault_text e))))
 
--- the sink holds what it held, and then some bytes
-abbrev pub IsCutShort : Option Text → Option Text → Type 0
-IsCutShort held held' = (front : Text) × (held' ≡ append_known held front)
+-- what the script has a run write: the text that it answers, or the line of a fault that it has
+abbrev pub IsOutput : Limits → Text → Text → Type 0
+IsOutput limits script bytes = AllowsText (answer (limits_seen limits) script) bytes
+    ⊎ ((e : ScriptError) × AllowsFault (answer (limits_seen limits) script) e × (e.cause ≢ Memory) × (bytes ≡ fault_text e))
+
+-- the sink holds what it held, and then a front of the bytes that were to be written. Where the source told what was left, it was read to its end, and these bytes are what the script has a run write
+abbrev pub IsCutShort : Limits → (left left' : Option Text) (held held' : Option Text) → Type 0
+IsCutShort limits left left' held held' = (bytes : Text) × HoldsFront held held' bytes × IfSome left (λ script. (left' ≡ Some []) × IsOutput limits script bytes)

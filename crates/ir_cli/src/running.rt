@@ -1,7 +1,7 @@
 //! The program, over any source and sink.
 ghost use Rattle.ir_cli.specs.Reading.{IsLonger};
 ghost use Rattle.ir_cli.specs.Run.{IsAnswered, IsCutShort, IsRefused, fault_text};
-ghost use Rattle.ir_core.specs.Streams.{Rose};
+ghost use Rattle.ir_core.specs.Streams.{HoldsFront, Rose};
 ghost use Rattle.ir_script.specs.Answered.{AllowsFault};
 ghost use Rattle.std.specs.Io.KnownBytes.{append_known};
 ghost use Rattle.std.specs.Prelude.{◌≡◌, ◌≢◌, ◌↔◌, ◌<◌, ◌⊎◌, Err, IfOk, IsSome, OnErr, length};
@@ -77,7 +77,7 @@ fn refuse<K: Sink>(alloc: Global, sink: &mut K, error: ScriptError) -> Status
     ensures statuses { (result ≡ Status.Refused) ⊎ ((result ≡ Status.WriteFault) ⊎ (result ≡ Status.Memory)) }
     ensures refused { result ≡ Status.Refused → (error.cause ≢ Cause.Memory) × (K.held sink.new ≡ append_known (K.held sink.old) (fault_text error)) }
     ensures fault { result ≡ Status.WriteFault → Rose (K.faults sink.old) (K.faults sink.new) }
-    ensures front { result ≡ Status.WriteFault → IsCutShort (K.held sink.old) (K.held sink.new) }
+    ensures front { result ≡ Status.WriteFault → (error.cause ≢ Cause.Memory) × HoldsFront (K.held sink.old) (K.held sink.new) (fault_text error) }
     ensures kept { result ≡ Status.Memory → K.held sink.new ≡ K.held sink.old }
 {
     if error.cause == Cause::Memory {
@@ -102,10 +102,10 @@ pub fn run<S: Source, K: Sink>(alloc: Global, words: &[Text], source: &mut S, si
     ensures words { (result.status ≡ Status.Words) ↔ (0 < length words.now) }
     ensures untouched { result.status ≡ Status.Words → (source.new ≡ source.old) × (sink.new ≡ sink.old) }
 
-    // The other ends, each by its cause.
+    // The other ends, each by its cause. A write fault may leave a front of what was to be written.
     ensures read_fault { result.status ≡ Status.ReadFault → Rose (S.faults source.old) (S.faults source.new) }
     ensures write_fault { result.status ≡ Status.WriteFault → Rose (K.faults sink.old) (K.faults sink.new) }
-    ensures cut_short { result.status ≡ Status.WriteFault → IsCutShort (K.held sink.old) (K.held sink.new) }
+    ensures cut_short { result.status ≡ Status.WriteFault → IsCutShort LIMITS (S.left source.old) (S.left source.new) (K.held sink.old) (K.held sink.new) }
     ensures too_long { result.status ≡ Status.TooLong → IsLonger (S.left source.old) 16777216 }
     ensures unwritten { (result.status ≡ Status.ReadFault) ⊎ ((result.status ≡ Status.Memory) ⊎ (result.status ≡ Status.TooLong)) → K.held sink.new ≡ K.held sink.old }
 
