@@ -1,7 +1,7 @@
 //! Reading a source to its end.
-ghost use Rattle.std.specs.Prelude.{◌≡◌, ◌+◌, ◌<◌, ◌≤◌, ◌++◌, length, take, Err, IfOk, vec_len};
+ghost use Rattle.std.specs.Prelude.{◌≡◌, ◌+◌, ◌<◌, ◌≤◌, ◌++◌, length, take, Err, IfOk, OnOk, vec_len};
 ghost use Rattle.ir_core.specs.Streams.{Counts, Rose, Reads};
-ghost use Rattle.ir_cli.specs.Reading.{ReadsAll, IsLonger};
+ghost use Rattle.ir_cli.specs.Reading.{ReadsAll, IsLonger, IsWithin};
 ghost use Rattle.ir_cli.specs.declared.reading.ReadEnd.TheVariants.{Fault, Memory};
 
 use ir_core::{Failed, Source};
@@ -44,6 +44,7 @@ impl From<AllocError> for ReadEnd {
 pub fn read_all<S: Source>(alloc: Global, source: &mut S) -> Result<Vec<u8>, ReadEnd>
     ensures counts { S.faults source.old ≤ S.faults source.new }
     ensures ok { IfOk result (λ v. ReadsAll (S.left source.old) (S.left source.new) v.items) }
+    ensures within { OnOk result (IsWithin (S.left source.old) 16777216) }
     ensures len { IfOk result (λ v. vec_len v ≤ 16777216) }
     ensures fault { result ≡ Err ReadEnd.Fault → Rose (S.faults source.old) (S.faults source.new) }
     ensures too_long { result ≡ Err ReadEnd.TooLong → IsLonger (S.left source.old) 16777216 }
@@ -68,6 +69,7 @@ fn read_pieces<S: Source>(
     requires { 0 < length piece.old }
     ensures counts { S.faults source.old ≤ S.faults source.new }
     ensures ok { IfOk result (λ v. ReadsAll (S.left source.old) (S.left source.new) v.items) }
+    ensures within { OnOk result (IsWithin (S.left source.old) 16777216) }
     ensures len { IfOk result (λ v. vec_len v ≤ 16777216) }
     ensures fault { result ≡ Err ReadEnd.Fault → Rose (S.faults source.old) (S.faults source.new) }
     ensures too_long { result ≡ Err ReadEnd.TooLong → IsLonger (S.left source.old) 16777216 }

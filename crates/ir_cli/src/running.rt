@@ -1,5 +1,5 @@
 //! The program, over any source and sink.
-ghost use Rattle.ir_cli.specs.Reading.{IsLonger};
+ghost use Rattle.ir_cli.specs.Reading.{IsLonger, IsWithin};
 ghost use Rattle.ir_cli.specs.Run.{IsAnswered, IsCutShort, IsRefused, fault_text};
 ghost use Rattle.ir_core.specs.Streams.{HoldsFront, Rose};
 ghost use Rattle.ir_script.specs.Answered.{AllowsFault};
@@ -107,6 +107,7 @@ pub fn run<S: Source, K: Sink>(alloc: Global, words: &[Text], source: &mut S, si
     ensures write_fault { result.status ≡ Status.WriteFault → Rose (K.faults sink.old) (K.faults sink.new) }
     ensures cut_short { result.status ≡ Status.WriteFault → IsCutShort LIMITS (S.left source.old) (S.left source.new) (K.held sink.old) (K.held sink.new) }
     ensures too_long { result.status ≡ Status.TooLong → IsLonger (S.left source.old) 16777216 }
+    ensures within { (result.status ≡ Status.Done) ⊎ ((result.status ≡ Status.Refused) ⊎ (result.status ≡ Status.WriteFault)) → IsWithin (S.left source.old) 16777216 }
     ensures unwritten { (result.status ≡ Status.ReadFault) ⊎ ((result.status ≡ Status.Memory) ⊎ (result.status ≡ Status.TooLong)) → K.held sink.new ≡ K.held sink.old }
 
     // The interner is handed out exactly where the answer was written.
