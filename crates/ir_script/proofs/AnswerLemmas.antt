@@ -3,6 +3,7 @@ use Rattle.std.proofs.Common.{◌≡◌, ◌∙◌, ◌≤◌, ◌<◌, ℕ, suc
 use Rattle.std.specs.Option.{option_map}
 use Rattle.std.specs.Prelude.{sum_by}
 use Rattle.std.proofs.lemmas.Bool.Decides.{nat_tests}
+use Rattle.std.proofs.Math.Bool.{and-true}
 use Rattle.ir_laws.specs.Answer as spec
 use Rattle.ir_laws.specs.Answer.{Answer, State, Writes, Meets, Allows, answer, answer_lines, answer_within, start, resolved, text_of_line, after_line, with_end, line_text}
 use Rattle.ir_laws.specs.Cause as cause
@@ -90,11 +91,7 @@ module _ (limits : Limits) (p : Phrase) (t : Term) (known : unknown_in no_names 
   by_tests held = met limits p held ∙ (λ i. stages limits held (known i) (fits i) (tree i))
 
   within_is : is_within limits t ≡ nat_le (height t) limits.height
-  within_is = ap (λ b. nat_le (height t) limits.height && b) (plain_fits limits t plain) ∙ and_true (nat_le (height t) limits.height)
-    where
-      and_true : (b : Bool) → (b && true) ≡ b
-      and_true true = refl
-      and_true false = refl
+  within_is = ap (λ b. nat_le (height t) limits.height && b) (plain_fits limits t plain) ∙ and-true (nat_le (height t) limits.height)
 
   -- a tree that is too high
   pub deep_met : limits.height < height t → (held : List Term) → Says code.TooDeep (causes_met limits (Some (Print p)) held)

@@ -2,7 +2,7 @@
 use Rattle.std.proofs.Common.{◌≡◌, ℕ, ◌+◌, ◌-◌, ◌<◌, ◌≤◌, ◌||◌, Bool, true, false, length, get_or, take, drop, List, [], ◌∷◌, ◌++◌, refl, sym, ap, ◌∙◌, ◌⊎◌, inl, inr, arith, nat_eq}
 use Rattle.std.specs.List.{slice_range, list_any}
 use Rattle.std.proofs.lemmas.List.{length-drop, length-take, get_or-drop, drop_more, drop_all, append-nil}
-use Rattle.std.proofs.lemmas.Bool.{cases_order}
+use Rattle.std.proofs.lemmas.Bool.{cases_order, or_parts}
 use Rattle.std.proofs.lemmas.Bool.Decides.{nat_tests}
 use Rattle.std.proofs.lemmas.List.Folds.{drop_split, list_any_more}
 use Rattle.ir_laws.specs.Tree.{Text}
@@ -19,21 +19,17 @@ ends_line bs = list_any is_line_end bs
 abbrev onto_lines : Bool → ℕ → List Text → List Text
 onto_lines ends b lines = elim ends [ true ↦ [] ∷ lines | false ↦ onto_first_line b lines ]
 
-or_false : (a b : Bool) → (a || b) ≡ false → (a ≡ false) × (b ≡ false)
-or_false true b e = cc
-or_false false b e = (refl, e)
-
 -- bytes that end no line stand before the rest's first line
 lines_of-ended : (line rest : Text) → ends_line line ≡ false → lines_of (line ++ 10 ∷ rest) ≡ line ∷ lines_of rest
 lines_of-ended [] rest e = refl
 lines_of-ended (b ∷ bs) rest e =
-    let parts = or_false (nat_eq b 10) (ends_line bs) e in
+    let parts = or_parts (nat_eq b 10) (ends_line bs) e in
     ap (λ ends. onto_lines ends b (lines_of (bs ++ 10 ∷ rest))) parts.0 ∙ ap (onto_first_line b) (lines_of-ended bs rest parts.1)
 
 lines_of-last : (b : ℕ) (bs : Text) → ends_line (b ∷ bs) ≡ false → lines_of (b ∷ bs) ≡ (b ∷ bs) ∷ []
-lines_of-last b [] e = let parts = or_false (nat_eq b 10) false e in ap (λ ends. onto_lines ends b []) parts.0
+lines_of-last b [] e = let parts = or_parts (nat_eq b 10) false e in ap (λ ends. onto_lines ends b []) parts.0
 lines_of-last b (c ∷ cs) e =
-    let parts = or_false (nat_eq b 10) (ends_line (c ∷ cs)) e in
+    let parts = or_parts (nat_eq b 10) (ends_line (c ∷ cs)) e in
     ap (λ ends. onto_lines ends b (lines_of (c ∷ cs))) parts.0 ∙ ap (onto_first_line b) (lines_of-last c cs parts.1)
 
 -- one more byte of a line

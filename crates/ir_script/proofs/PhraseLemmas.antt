@@ -1,6 +1,7 @@
 -- What groups and labels of the code are to the definitions, and how a label is fitted part by part.
-use Rattle.std.proofs.Common.{◌≡◌, ℕ, suc, max, ◌+◌, ◌<◌, ◌≤◌, ◌≢◌, Bool, true, false, List, [], ◌∷◌, ◌++◌, cond, ◌&&◌, length, get_or, drop, map, find, bytes_eq, Option, Some, None, option_map, Vec, Global, refl, sym, ap, ◌∙◌, drop-cons, add-one, arith}
+use Rattle.std.proofs.Common.{◌≡◌, ℕ, suc, max, ◌+◌, ◌<◌, ◌≤◌, ◌≢◌, Bool, true, false, List, [], ◌∷◌, ◌++◌, cond, length, get_or, drop, map, find, bytes_eq, Option, Some, None, option_map, Vec, Global, refl, sym, ap, ◌∙◌, drop-cons, add-one, arith}
 use Rattle.std.specs.List.{list_all}
+use Rattle.std.proofs.lemmas.Bool.{and_parts, true_from_ne_false}
 use Rattle.std.proofs.lemmas.List.{drop_all}
 use Rattle.std.proofs.lemmas.List.Folds.{list_all_at}
 use denote.Param.Weighed.{most}
@@ -101,10 +102,6 @@ with_kid-none : (k : Option Phrase) → with_kid k None ≡ None
 with_kid-none None = refl
 with_kid-none (Some k) = refl
 
-and-both : (a b : Bool) → (a && b) ≡ true → (a ≡ true) × (b ≡ true)
-and-both true b h = (refl, h)
-and-both false b h = cc
-
 both_suc : (es : List code.Expr) (parts : List Part) → suc (length es) ≢ suc (length parts) → length es ≢ length parts
 both_suc es parts n same = n (ap (λ k. suc k) same)
 
@@ -116,16 +113,12 @@ fit-length (e ∷ es) [] h n = refl
 fit-length (e ∷ es) (Fixed word ∷ parts) h n = fit-length es parts h (both_suc es parts n)
 fit-length (e ∷ es) (ForGroup ∷ parts) h n = cc
 fit-length (e ∷ es) (AField form ∷ parts) h n =
-    fit-field (expr_of e) (exprs_in es) form parts (and-both (is_built_field form) (are_built parts) h).0 ∙ ap (with_field (field_in form (expr_of e))) (fit-length es parts (and-both (is_built_field form) (are_built parts) h).1 (both_suc es parts n)) ∙ with_field-none (field_in form (expr_of e))
+    fit-field (expr_of e) (exprs_in es) form parts (and_parts (is_built_field form) (are_built parts) h).0 ∙ ap (with_field (field_in form (expr_of e))) (fit-length es parts (and_parts (is_built_field form) (are_built parts) h).1 (both_suc es parts n)) ∙ with_field-none (field_in form (expr_of e))
 fit-length (e ∷ es) (AKid form ∷ parts) h n =
     fit-kid (expr_of e) (exprs_in es) form parts ∙ ap (with_kid (kid_in form (expr_of e))) (fit-length es parts h (both_suc es parts n)) ∙ with_kid-none (kid_in form (expr_of e))
 
-holds : (b : Bool) → (b ≡ false → ⊥) → b ≡ true
-holds true n = refl
-holds false n = absurd (n refl)
-
 pub built_at : (parts : List Part) (i : ℕ) (part spare : Part) → are_built parts ≡ true → i < length parts → get_or parts i spare ≡ part → is_built part ≡ true
-built_at parts i part spare h lt is = holds (is_built part) (λ f. let none : are_built parts ≡ false = list_all_at is_built parts i spare lt (ap is_built is ∙ f) in cc)
+built_at parts i part spare h lt is = true_from_ne_false (is_built part) (λ f. let none : are_built parts ≡ false = list_all_at is_built parts i spare lt (ap is_built is ∙ f) in cc)
 
 -- ---- a label's parts one by one
 
@@ -215,7 +208,7 @@ first_or_later q y x false later h k is = k is
 -- what a test over a list holds of, holds of what is found in it
 found-holds : {X : Type 0} (q p : X → Bool) (xs : List X) (x : X) → list_all q xs ≡ true → find p xs ≡ Some x → q x ≡ true
 found-holds q p [] x h is = cc
-found-holds q p (y ∷ ys) x h is = first_or_later q y x (p y) (find p ys) (and-both (q y) (list_all q ys) h).0 (found-holds q p ys x (and-both (q y) (list_all q ys) h).1) is
+found-holds q p (y ∷ ys) x h is = first_or_later q y x (p y) (find p ys) (and_parts (q y) (list_all q ys) h).0 (found-holds q p ys x (and_parts (q y) (list_all q ys) h).1) is
 
 labels-built : labels_are_built ≡ true
 labels-built = refl
