@@ -1,10 +1,10 @@
 //! The program, over any source and sink.
 ghost use Rattle.ir_cli.specs.Reading.{IsLonger, IsWithin};
-ghost use Rattle.ir_cli.specs.Run.{IsAnswered, IsCutShort, IsRefused, fault_text};
+ghost use Rattle.ir_cli.specs.Run.{HasValid, HoldsTerms, IsAnswered, IsCutShort, IsRefused, fault_text};
 ghost use Rattle.ir_core.specs.Streams.{HoldsFront, Rose};
 ghost use Rattle.ir_script.specs.Answered.{AllowsFault};
 ghost use Rattle.std.specs.Io.KnownBytes.{append_known};
-ghost use Rattle.std.specs.Prelude.{◌≡◌, ◌≢◌, ◌↔◌, ◌<◌, ◌⊎◌, Err, IfOk, IsSome, OnErr, length};
+ghost use Rattle.std.specs.Prelude.{◌≡◌, ◌≢◌, ◌↔◌, ◌<◌, ◌⊎◌, Err, IfOk, IfSome, IsSome, OnErr, length};
 
 use crate::reading::{ReadEnd, read_all};
 use crate::writing::write_all;
@@ -110,8 +110,12 @@ pub fn run<S: Source, K: Sink>(alloc: Global, words: &[Text], source: &mut S, si
     ensures within { (result.status ≡ Status.Done) ⊎ ((result.status ≡ Status.Refused) ⊎ (result.status ≡ Status.WriteFault)) → IsWithin (S.left source.old) 16777216 }
     ensures unwritten { (result.status ≡ Status.ReadFault) ⊎ ((result.status ≡ Status.Memory) ⊎ (result.status ≡ Status.TooLong)) → K.held sink.new ≡ K.held sink.old }
 
+    // A valid script that is not too long is answered, or memory is wanted, where no call on source and sink fails.
+    ensures complete { length words.now ≡ 0 → HasValid LIMITS 16777216 (S.left source.old) → (Rose (S.faults source.old) (S.faults source.new) → ⊥) → (Rose (K.faults sink.old) (K.faults sink.new) → ⊥) → (result.status ≡ Status.Done) ⊎ (result.status ≡ Status.Memory) }
+
     // The interner is handed out exactly where the answer was written.
     ensures interner { IsSome result.cx ↔ (result.status ≡ Status.Done) }
+    ensures terms { IfSome result.cx (HoldsTerms LIMITS (S.left source.old)) }
 {
     if !words.is_empty() {
         return without_answer(Status::Words);

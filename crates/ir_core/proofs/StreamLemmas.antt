@@ -5,10 +5,10 @@ use Rattle.std.proofs.Math.Seq.{take-add}
 use Rattle.std.specs.Io.KnownBytes.{append_known}
 use Rattle.ir_core.specs.Streams.{Reads, HoldsFront}
 
--- a read copies the n bytes from `at` on to the front of the piece
-pub Reads-copied : (items front piece : List ℕ) (at n : ℕ) → at ≤ length items → n ≡ min (length piece) (length items - at) → front ≡ take n (drop at items)
+-- a read copies the n bytes from `at` on to the front of the piece, and none only where the piece has no room or no byte is left
+pub Reads-copied : (items front piece : List ℕ) (at n : ℕ) → n ≤ min (length piece) (length items - at) → (n ≡ 0 → min (length piece) (length items - at) ≡ 0) → front ≡ take n (drop at items)
     → Reads (Some (drop at items)) (Some (drop (at + n) items)) (front ++ drop n piece) n
-Reads-copied items front piece at n in_items is_least is_front =
+Reads-copied items front piece at n in_both none is_front =
     let some : n ≤ length (drop at items) = omega (arith, length-drop at items) in
     let count : length front ≡ n = ap length is_front ∙ length-take-le n (drop at items) some in
     let shown = take_at front (drop n piece) n count in
@@ -17,7 +17,7 @@ Reads-copied items front piece at n in_items is_least is_front =
     record {
       fits = omega (arith, length-append front (drop n piece));
       given = ap Some (sym (ap (λ (l : List ℕ). l ++ drop (at + n) items) (shown ∙ is_front) ∙ ap (λ (l : List ℕ). take n (drop at items) ++ l) (sym rest) ∙ whole));
-      ends = λ none room. drop_all (at + n) items (omega (arith, length-append front (drop n piece), length-drop n piece));
+      ends = λ is_none room. drop_all (at + n) items (omega (arith, none is_none, length-append front (drop n piece), length-drop n piece));
     }
 
 -- two writes, of the first m bytes and of n of the rest

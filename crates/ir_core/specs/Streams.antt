@@ -1,5 +1,6 @@
 -- What a call on a source or a sink of bytes does to its bytes and to its count of faults.
-use Rattle.std.specs.Prelude.{◌≡◌, ℕ, ◌-◌, ◌^◌, ◌<◌, ◌≤◌, ◌⊎◌, List, length, take, Option}
+use Rattle.std.specs.Prelude.{◌≡◌, ℕ, ◌+◌, ◌-◌, ◌^◌, ◌<◌, ◌≤◌, ◌⊎◌, ◌==◌, min, IsTrue, List, length, take, Option}
+use Rattle.std.specs.List.{list_any}
 use Rattle.std.specs.Io.KnownBytes.{prepend_known, append_known, IsAtEnd}
 
 -- a count of faults after a call: it never falls, and it has a last value
@@ -38,3 +39,32 @@ pub record SinkState : Type 0 where
   pub held : List ℕ
   pub room : ℕ
   pub faults : ℕ
+
+-- a count after one more. It stands still at its last value
+abbrev pub rises : ℕ → ℕ
+rises n = min (n + 1) (2 ^ 64 - 1)
+
+-- the call of this number is one of those that fail
+abbrev pub FailsAt : List ℕ → ℕ → Type 0
+FailsAt fails number = IsTrue (list_any (λ n. n == number) fails)
+
+-- a source in memory that fails at given calls: the bytes that are left, how many a call gives at most, the numbers of the calls that fail, how many calls there were, and how many of them failed
+pub record MemorySourceState : Type 0 where
+  pub left : List ℕ
+  pub piece : ℕ
+  pub fails : List ℕ
+  pub calls : ℕ
+  pub faults : ℕ
+
+-- a sink in memory that fails at given calls: the bytes that it holds, how many more it has room for, how many a call takes at most, the numbers of the calls that fail, how many calls there were, and how many of them failed
+pub record MemorySinkState : Type 0 where
+  pub held : List ℕ
+  pub room : ℕ
+  pub piece : ℕ
+  pub fails : List ℕ
+  pub calls : ℕ
+  pub faults : ℕ
+
+-- the sink has no room for the bytes, of which there is at least one
+abbrev pub IsFullFor : MemorySinkState → List ℕ → Type 0
+IsFullFor sink bytes = (sink.room ≡ 0) × (0 < length bytes)

@@ -1,4 +1,4 @@
-//! Ids of declared items. Each kind of item has ids of its own, which count from 0.
+//! Ids of declared items, each kind of which has ids of its own, and indices. All count from 0.
 
 /// The id of a struct.
 #[derive(Clone, Copy, PartialEq, Eq, PartialOrd, Ord, Hash, Debug)]
@@ -88,3 +88,7 @@ pub enum SolverDefId {
     EnumVariantId(EnumVariantId),
     Ctor(Ctor),
 }
+
+/// A de Bruijn index: how many binders stand between a variable and the one that binds it.
+#[derive(Clone, Copy, PartialEq, Eq, PartialOrd, Ord, Hash, Debug)]
+pub struct DebruijnIndex(pub u32);

@@ -66,3 +66,43 @@ pub enum RegionKind {
     ReErased,
     ReError(ErrorGuaranteed),
 }
+
+/// What a constant is.
+#[derive(Clone, Copy, PartialEq, Eq, Hash, Debug)]
+pub enum ConstKind {
+    Error(ErrorGuaranteed),
+}
+
+/// What a bound region is called.
+#[derive(Clone, Copy, PartialEq, Eq, Hash, Debug)]
+pub enum BoundRegionKind {
+    /// The region of a closure's environment, through which its body reaches what it captured.
+    ClosureEnv,
+}
+
+/// What a variable of a binder is. The default fills the unused places of a short list.
+#[derive(Clone, Copy, PartialEq, Eq, Hash, Debug)]
+pub enum BoundVarKind {
+    Region(BoundRegionKind),
+}
+
+impl Default for BoundVarKind {
+    fn default() -> BoundVarKind {
+        BoundVarKind::Region(BoundRegionKind::ClosureEnv)
+    }
+}
+
+/// How a term depends on an argument of it. The default fills the unused places of a short list.
+#[derive(Clone, Copy, PartialEq, Eq, Hash, Debug)]
+pub enum Variance {
+    Covariant,
+    Invariant,
+    Contravariant,
+    Bivariant,
+}
+
+impl Default for Variance {
+    fn default() -> Variance {
+        Variance::Invariant
+    }
+}

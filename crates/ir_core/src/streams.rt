@@ -1,6 +1,6 @@
 //! Sources and sinks of bytes, whose calls may fail.
-ghost use Rattle.std.specs.Prelude.{◌≡◌, ℕ, ◌+◌, ◌-◌, ◌^◌, ◌<◌, ◌≤◌, min, List, [], ◌++◌, length, take, drop, Option, Some, Ok, Err, IfOk, OnOk, OnErr};
-ghost use Rattle.ir_core.specs.Streams.{Counts, Rose, Reads, Writes, HoldsFront, SinkState};
+ghost use Rattle.std.specs.Prelude.{◌≡◌, ℕ, ◌-◌, ◌<◌, ◌≤◌, min, List, [], ◌++◌, length, take, drop, Option, Some, Ok, Err, IfOk, OnOk, OnErr};
+ghost use Rattle.ir_core.specs.Streams.{Counts, Rose, Reads, Writes, HoldsFront, SinkState, rises};
 
 use crate::{R, TermError};
 use std::alloc::Global;
@@ -141,7 +141,7 @@ impl Sink for SureSink {
         ensures held { self.new.held ≡ self.old.held ++ take self.old.room bytes.now }
         ensures room { self.new.room ≡ self.old.room - length bytes.now }
         ensures ok { IfOk result (λ n. (n ≡ min (length bytes.now) self.old.room) × (self.new.faults ≡ self.old.faults)) }
-        ensures full { OnErr result ((self.old.room ≡ 0) × (0 < length bytes.now) × (self.new.faults ≡ min (self.old.faults + 1) (2 ^ 64 - 1))) }
+        ensures full { OnErr result ((self.old.room ≡ 0) × (0 < length bytes.now) × (self.new.faults ≡ rises self.old.faults)) }
     {
         let taken = bytes.len().min(self.room);
         if taken == 0 && !bytes.is_empty() {

@@ -1,9 +1,10 @@
 //! Terms of any sort.
-use crate::{Region, Ty};
+use crate::{Const, Region, Ty};
 
 /// A term that stands by itself, of any sort that has handles of its own.
 #[derive(Clone, Copy, PartialEq, Eq, PartialOrd, Ord, Hash, Debug)]
 pub enum AnyTerm {
     Ty(Ty),
     Region(Region),
+    Const(Const),
 }

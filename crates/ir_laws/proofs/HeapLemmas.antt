@@ -68,7 +68,7 @@ module _ {P : Type 0} where
       let x = one p q a.0 b.0 head in
       let y = forest-injective f A one ps qs a.1 b.1 tail in cc
 
-  heights-forest : (f : P → Term) (g : P → ℕ) (ps : List P) → Each (λ p. height (f p) ≡ g p) ps → heights (forest f ps) ≡ largest g ps
+  pub heights-forest : (f : P → Term) (g : P → ℕ) (ps : List P) → Each (λ p. height (f p) ≡ g p) ps → heights (forest f ps) ≡ largest g ps
   heights-forest f g [] h = refl
   heights-forest f g (p ∷ ps) h = let e = h.0 in let r = heights-forest f g ps h.1 in rw (e, r)
 

@@ -15,6 +15,8 @@ pub mod Numerals
 pub mod Said
 pub mod Samples
 pub mod HeapLemmas
+pub mod PartSets
+pub mod HeldLemmas
 pub mod FormedLemmas
 mod PrintRows
 mod AnswerRows

@@ -1,7 +1,7 @@
 -- Tests that tell equality.
-use Rattle.std.proofs.Common.{◌≡◌, ℕ, Bool, true, false, ◌&&◌, List, [], ◌∷◌, Some, Decides, nat_eq, slice_get, refl, sym, ap, ap₂, subst, ◌∙◌}
+use Rattle.std.proofs.Common.{◌≡◌, ℕ, Bool, true, false, List, [], ◌∷◌, Some, Decides, nat_eq, slice_get, refl, sym, ap, ap₂, subst, ◌∙◌}
 use Rattle.std.proofs.Common.{true≢false}
-use Rattle.std.proofs.lemmas.Bool.{eqb-true, eq-eqb}
+use Rattle.std.proofs.lemmas.Bool.{and_parts, and_from, eqb-true, eq-eqb}
 use Rattle.std.proofs.lemmas.Option.{same_Some}
 use Rattle.ir_laws.specs.Same.{same_list}
 
@@ -18,24 +18,15 @@ pub and_then_decides : {P Q : Type 0} (x y : Bool) → Decides x P → Decides y
 and_then_decides true y d k = (λ e. (d.0 refl, k.0 e), λ h. k.1 h.1)
 and_then_decides false y d k = (λ e. absurd (true≢false (sym e)), λ h. d.1 h.0)
 
--- both tests hold
-pub both_hold : (x y : Bool) → (x && y) ≡ true → (x ≡ true) × (y ≡ true)
-both_hold true y e = (refl, e)
-both_hold false y e = absurd (true≢false (sym e))
-
-pub hold_both : (x y : Bool) → x ≡ true → y ≡ true → (x && y) ≡ true
-hold_both true y p q = q
-hold_both false y p q = p
-
 module _ {A : Type 0} (same : A → A → Bool) (decides : (a b : A) → Decides (same a b) (a ≡ b)) where
   list_exact : (xs ys : List A) → same_list same xs ys ≡ true → xs ≡ ys
   list_exact [] [] e = refl
-  list_exact (x ∷ xs) (y ∷ ys) e = let both = both_hold (same x y) (same_list same xs ys) e in ap₂ (λ x xs. x ∷ xs) ((decides x y).0 both.0) (list_exact xs ys both.1)
+  list_exact (x ∷ xs) (y ∷ ys) e = let both = and_parts (same x y) (same_list same xs ys) e in ap₂ (λ x xs. x ∷ xs) ((decides x y).0 both.0) (list_exact xs ys both.1)
   list_exact _ _ e = absurd (true≢false (sym e))
 
   list_itself : (xs : List A) → same_list same xs xs ≡ true
   list_itself [] = refl
-  list_itself (x ∷ xs) = hold_both (same x x) (same_list same xs xs) ((decides x x).1 refl) (list_itself xs)
+  list_itself (x ∷ xs) = and_from (same x x) (same_list same xs xs) ((decides x x).1 refl) (list_itself xs)
 
   pub list_decides : (xs ys : List A) → Decides (same_list same xs ys) (xs ≡ ys)
   list_decides = decides_by (same_list same) list_exact list_itself

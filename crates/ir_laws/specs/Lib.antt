@@ -30,4 +30,5 @@ pub mod Scoping
 pub mod Laws
 pub mod SameLaws
 pub mod Heap
+pub mod Held
 pub mod Formed

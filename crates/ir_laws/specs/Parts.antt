@@ -55,6 +55,11 @@ abbrev pub is_part : List Term → Term → Bool
 is_part [] t = false
 is_part (u ∷ us) t = elim (same_term u t) [ true ↦ true | false ↦ is_part us t ]
 
+-- no term stands twice
+abbrev pub is_set : List Term → Bool
+is_set [] = true
+is_set (t ∷ ts) = not (is_part ts t) && is_set ts
+
 -- the set with one more part
 abbrev pub with_part : List Term → Term → List Term
 with_part held t = elim (is_part held t) [ true ↦ held | false ↦ t ∷ held ]

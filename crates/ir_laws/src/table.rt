@@ -1,12 +1,15 @@
 //! The table of labels, for code.
 ghost use Rattle.ir_laws.specs.Label.{row, Always, ByKind};
 ghost use Rattle.ir_laws.specs.Keyword.{choice_words, fixed_text, keyword_text};
+ghost use Rattle.ir_core.specs.Flags.{bits_of};
 ghost use Rattle.std.specs.Prelude.{◌≡◌, MatchOption};
 
 use crate::{
     ArgumentCount, Choice, FieldForm, FixedWord, IfEmpty, ItemKind, ItemPlace, Keyword, KidForm,
     Part, Sort, Word,
 };
+use bitflags::Flags;
+use ir_core::TypeFlags;
 
 impl Word {
     /// The word that begins a label of this word, or is the label. A list has none.
@@ -444,6 +447,108 @@ impl Word {
             | Word::ClauseList
             | Word::VariableList => Some(Sort::OfList),
             Word::VarianceList | Word::AssumptionList => Some(Sort::OfList),
+        }
+    }
+
+    /// The flags of a label of this word by itself. For a variable and a placeholder they go by its sort besides.
+    pub fn flags(self) -> TypeFlags
+        ensures { bits_of result ≡ (row self).flags }
+    {
+        match self {
+            Word::BoolType
+            | Word::CharType
+            | Word::StrType
+            | Word::NeverType
+            | Word::I8Type
+            | Word::I16Type => TypeFlags::empty(),
+            Word::I32Type
+            | Word::I64Type
+            | Word::I128Type
+            | Word::ISizeType
+            | Word::U8Type
+            | Word::U16Type => TypeFlags::empty(),
+            Word::U32Type
+            | Word::U64Type
+            | Word::U128Type
+            | Word::USizeType
+            | Word::F16Type
+            | Word::F32Type => TypeFlags::empty(),
+            Word::F64Type | Word::F128Type => TypeFlags::empty(),
+            Word::ErrorType => TypeFlags::HAS_ERROR,
+            Word::AdtType
+            | Word::ForeignType
+            | Word::ArrayType
+            | Word::PatternType
+            | Word::SliceType
+            | Word::PointerType => TypeFlags::empty(),
+            Word::ReferenceType
+            | Word::FnDefType
+            | Word::FnPtrType
+            | Word::UnsafeBinderType
+            | Word::DynType
+            | Word::ClosureType => TypeFlags::empty(),
+            Word::CoroutineClosureType => TypeFlags::empty(),
+            Word::CoroutineType => TypeFlags::HAS_TY_COROUTINE,
+            Word::WitnessType | Word::TupleType => TypeFlags::empty(),
+            Word::ProjectionAlias => TypeFlags::HAS_TY_PROJECTION,
+            Word::InherentAlias => TypeFlags::HAS_TY_INHERENT,
+            Word::FreeAlias => TypeFlags::HAS_TY_FREE_ALIAS,
+            Word::OpaqueAlias => TypeFlags::HAS_TY_OPAQUE,
+            Word::TypeParameter => TypeFlags::HAS_TY_PARAM,
+            Word::TypeVariable | Word::IntegerVariable | Word::FloatVariable =>
+                TypeFlags::HAS_TY_INFER,
+            Word::FreshType | Word::FreshInteger | Word::FreshFloat => TypeFlags::HAS_TY_FRESH,
+            Word::StaticRegion => TypeFlags::HAS_FREE_REGIONS,
+            Word::ErasedRegion => TypeFlags::HAS_RE_ERASED,
+            Word::ErrorRegion => TypeFlags::HAS_FREE_REGIONS.union(TypeFlags::HAS_ERROR),
+            Word::RegionParameter => TypeFlags::HAS_FREE_REGIONS
+                .union(TypeFlags::HAS_FREE_LOCAL_REGIONS)
+                .union(TypeFlags::HAS_RE_PARAM),
+            Word::LateRegion => TypeFlags::HAS_FREE_REGIONS.union(
+                TypeFlags::HAS_FREE_LOCAL_REGIONS,
+            ),
+            Word::RegionVariable => TypeFlags::HAS_FREE_REGIONS
+                .union(TypeFlags::HAS_FREE_LOCAL_REGIONS)
+                .union(TypeFlags::HAS_RE_INFER),
+            Word::ConstantParameter => TypeFlags::HAS_CT_PARAM,
+            Word::ConstantVariable => TypeFlags::HAS_CT_INFER,
+            Word::FreshConstant => TypeFlags::HAS_CT_FRESH,
+            Word::UnevaluatedConstant => TypeFlags::HAS_CT_PROJECTION,
+            Word::ValueConstant => TypeFlags::empty(),
+            Word::ExprConstant => TypeFlags::HAS_CT_PROJECTION,
+            Word::ErrorConstant => TypeFlags::HAS_ERROR,
+            Word::CanonicalVariable
+            | Word::BoundVariable
+            | Word::Placeholder
+            | Word::ByteTree
+            | Word::RangePattern
+            | Word::OrPattern => TypeFlags::empty(),
+            Word::NotNullPattern
+            | Word::ExistentialTrait
+            | Word::ExistentialProjection
+            | Word::ExistentialAuto
+            | Word::TraitClause
+            | Word::RegionOutlives => TypeFlags::empty(),
+            Word::TypeOutlives
+            | Word::ProjectionClause
+            | Word::ConstantHasType
+            | Word::WellFormed
+            | Word::ConstantEvaluatable
+            | Word::HostEffect => TypeFlags::empty(),
+            Word::UnstableFeature
+            | Word::DynCompatible
+            | Word::SubtypePredicate
+            | Word::CoercePredicate
+            | Word::ConstantEquate
+            | Word::AmbiguousPredicate => TypeFlags::empty(),
+            Word::NormalizesTo
+            | Word::AliasRelate
+            | Word::TypeList
+            | Word::ArgumentList
+            | Word::PatternList
+            | Word::ExistentialList => TypeFlags::empty(),
+            Word::ClauseList | Word::VariableList | Word::VarianceList | Word::AssumptionList =>
+                TypeFlags::empty(),
         }
     }
 }

@@ -1,11 +1,13 @@
 -- What a line meets and writes, and what the lines do together.
-use Rattle.std.proofs.Common.{◌≡◌, ◌∙◌, ◌≤◌, ◌<◌, ℕ, suc, Bool, true, false, cond, ◌&&◌, nat_le, List, [], ◌∷◌, ◌++◌, length, bytes_eq, codes, Option, Some, None, Ok, Err, refl, sym, ap, subst, ◌⊎◌, inl, inr, true≢false, arith}
+use Rattle.std.proofs.Common.{◌≡◌, ◌∙◌, ◌≤◌, ◌<◌, ℕ, suc, Bool, true, false, cond, ◌&&◌, nat_le, List, [], ◌∷◌, ◌++◌, length, bytes_eq, codes, Option, Some, None, Ok, Err, refl, sym, ap, subst, ⊎_elim, true≢false, arith}
 use Rattle.std.specs.Option.{option_map}
 use Rattle.std.specs.Prelude.{sum_by}
 use Rattle.std.proofs.lemmas.Bool.Decides.{nat_tests}
 use Rattle.std.proofs.Math.Bool.{and-true}
-use Rattle.ir_laws.specs.Answer as spec
-use Rattle.ir_laws.specs.Answer.{Answer, State, Writes, Meets, Allows, answer, answer_lines, answer_within, start, resolved, text_of_line, after_line, with_end, line_text}
+use Rattle.ir_core.specs.declared.errors.TermError.{TermError}
+use Rattle.ir_core.specs.declared.errors.TermError.TheVariants as error
+use Rattle.ir_core.specs.declared.handles.Part.{Part}
+use Rattle.ir_laws.specs.Answer.{Answer, State, Succeeds, Writes, Meets, Allows, Lines, Fault, answer, answer_lines, start, resolved, text_of_line, after_line, with_end, line_text}
 use Rattle.ir_laws.specs.Cause as cause
 use Rattle.ir_laws.specs.Cause.{is_cause_among}
 use Rattle.ir_laws.specs.Causes.{causes_of, earliest, tree_stages_if, are_listed}
@@ -15,6 +17,8 @@ use Rattle.ir_laws.specs.Expression as expression
 use Rattle.ir_laws.specs.Expression.{expr_list, lines_of}
 use Rattle.ir_laws.specs.Form.{Form, Blank, Print, FormRow, one_term, form_of, form_of_exprs}
 use Rattle.ir_laws.specs.Formed.{is_formed}
+use Rattle.ir_laws.specs.Heap.{Heap}
+use Rattle.ir_laws.specs.Held.{HoldsJust}
 use Rattle.ir_laws.specs.Limits.{Limits, capped, is_within}
 use Rattle.ir_laws.specs.Names.{unless, unknown_in}
 use Rattle.ir_laws.specs.Parts.{with_parts_of}
@@ -26,8 +30,10 @@ use Rattle.ir_laws.specs.Tree.{Text, Term}
 use Rattle.ir_laws.proofs.FormedLemmas.{phrases_formed}
 use Rattle.ir_script.specs.declared.causes.Cause.{Cause}
 use Rattle.ir_script.specs.declared.causes.Cause.TheVariants as code
-use Rattle.ir_script.specs.Causes.{no_names, Says, IsAmong, cause_seen}
-use Rattle.ir_script.specs.Answered.{causes_met, written, CountsParts, AnswersForm, IsFree, SpeaksOfCount, NamesFault, AllowsText, AllowsFault}
+use Rattle.ir_script.specs.declared.causes.ScriptError.{ScriptError}
+use Rattle.ir_table.specs.Start.{IsStartRefusal}
+use Rattle.ir_script.specs.Causes.{no_names, Says, IsAmong, cause_seen, cause_of}
+use Rattle.ir_script.specs.Answered.{causes_met, written, parts_after, AnswersForm, parts_left, AllowsCause, AllowsFault}
 use Rattle.ir_script.specs.Plain.{is_plain}
 use Rattle.ir_script.proofs.PlainLemmas.{plain_fits, plain_listed}
 
@@ -69,59 +75,75 @@ deep_test : (listed few small : Bool) → is_cause_among (tests false listed few
 unfolding tests
 deep_test listed few small = refl
 
-large_test : (few : Bool) → (is_cause_among (tests true true few false) cause.TooLarge ≡ true) ⊎ CountsParts (tests true true few false)
+count_test : (within listed small : Bool) → is_cause_among (tests within listed false small) cause.TooMany ≡ true
 unfolding tests
-large_test true = inl refl
-large_test false = inr refl
+count_test true listed small = refl
+count_test false listed small = refl
 
-clear_test : (few : Bool) → (tests true true few true ≡ []) ⊎ CountsParts (tests true true few true)
+large_test : is_cause_among (tests true true true false) cause.TooLarge ≡ true
 unfolding tests
-clear_test true = inl refl
-clear_test false = inr refl
+large_test = refl
+
+clear_test : tests true true true true ≡ []
+unfolding tests
+clear_test = refl
 
 module _ (limits : Limits) (p : Phrase) (t : Term) (known : unknown_in no_names None p ≡ []) (fits : misfits no_names operand p ≡ []) (tree : tree_of no_names p ≡ Some t) (plain : is_plain t ≡ true) where
-  few_parts : List Term → Bool
-  few_parts held = nat_le (length (with_parts_of held (t ∷ []))) limits.nodes
-
-  is_small : Bool
-  is_small = nat_le (sum_by size (t ∷ [])) limits.size
-
-  by_tests : (held : List Term) → causes_met limits (Some (Print p)) held ≡ tests (is_within limits t) (are_listed [] t) (few_parts held) is_small
-  unfolding stages tests few_parts is_small
-  by_tests held = met limits p held ∙ (λ i. stages limits held (known i) (fits i) (tree i))
-
-  within_is : is_within limits t ≡ nat_le (height t) limits.height
-  within_is = ap (λ b. nat_le (height t) limits.height && b) (plain_fits limits t plain) ∙ and-true (nat_le (height t) limits.height)
-
-  -- a tree that is too high
-  pub deep_met : limits.height < height t → (held : List Term) → Says code.TooDeep (causes_met limits (Some (Print p)) held)
-  deep_met h held =
-      let high : nat_le (height t) limits.height ≡ false = grind (arith, nat_tests) in
-      subst (λ cs. is_cause_among cs cause.TooDeep ≡ true) (sym (by_tests held ∙ ap (λ b. tests b (are_listed [] t) (few_parts held) is_small) (within_is ∙ high))) (deep_test (are_listed [] t) (few_parts held) is_small)
-
-  module _ (low : height t ≤ limits.height) where
-    low_tests : (held : List Term) (small : Bool) → is_small ≡ small → causes_met limits (Some (Print p)) held ≡ tests true true (few_parts held) small
-    low_tests held small h =
-        let high : nat_le (height t) limits.height ≡ true = grind (arith, nat_tests) in
-        by_tests held ∙ (λ i. tests ((within_is ∙ high) i) (plain_listed [] t plain i) (few_parts held) (h i))
-
-    -- a tree that is too large
-    pub large_met : limits.size < size t → (held : List Term) → Says code.TooLarge (causes_met limits (Some (Print p)) held) ⊎ CountsParts (causes_met limits (Some (Print p)) held)
-    unfolding is_small
-    large_met h held =
-        let large : is_small ≡ false = grind (arith, nat_tests) in
-        subst (λ cs. (is_cause_among cs cause.TooLarge ≡ true) ⊎ CountsParts cs) (sym (low_tests held false large)) (large_test (few_parts held))
-
-    -- a tree that meets no cause, but for the count of parts
-    pub clear_met : size t ≤ limits.size → (held : List Term) → (causes_met limits (Some (Print p)) held ≡ []) ⊎ CountsParts (causes_met limits (Some (Print p)) held)
-    unfolding is_small
-    clear_met h held =
-        let small : is_small ≡ true = grind (arith, nat_tests) in
-        subst (λ cs. (cs ≡ []) ⊎ CountsParts cs) (sym (low_tests held true small)) (clear_test (few_parts held))
-
-  -- what is written
+  -- what is written, and what is held afterwards
   pub print_written : written (Some (Print p)) ≡ spell (λ id. codes "?") t ++ 10 ∷ []
   print_written = ap (λ o. text_of_line start (option_map Print o)) tree
+
+  pub print_left : (held : List Term) → parts_after limits (Some (Print p)) held ≡ with_parts_of held (t ∷ [])
+  print_left held = ap (λ o. (after_line limits (record { environment = no_names; parts = held }) (option_map Print o)).parts) tree
+
+  module _ (held : List Term) where
+    few_parts : Bool
+    few_parts = nat_le (length (with_parts_of held (t ∷ []))) limits.nodes
+
+    is_small : Bool
+    is_small = nat_le (sum_by size (t ∷ [])) limits.size
+
+    by_tests : causes_met limits (Some (Print p)) held ≡ tests (is_within limits t) (are_listed [] t) few_parts is_small
+    unfolding stages tests few_parts is_small
+    by_tests = met limits p held ∙ (λ i. stages limits held (known i) (fits i) (tree i))
+
+    within_is : is_within limits t ≡ nat_le (height t) limits.height
+    within_is = ap (λ b. nat_le (height t) limits.height && b) (plain_fits limits t plain) ∙ and-true (nat_le (height t) limits.height)
+
+    -- a tree that is too high
+    pub deep_met : limits.height < height t → Says code.TooDeep (causes_met limits (Some (Print p)) held)
+    deep_met h =
+        let high : nat_le (height t) limits.height ≡ false = grind (arith, nat_tests) in
+        subst (λ cs. is_cause_among cs cause.TooDeep ≡ true) (sym (by_tests ∙ ap (λ b. tests b (are_listed [] t) few_parts is_small) (within_is ∙ high))) (deep_test (are_listed [] t) few_parts is_small)
+
+    -- too many parts, whatever its height
+    pub many_met : limits.nodes < length (with_parts_of held (t ∷ [])) → Says code.TooMany (causes_met limits (Some (Print p)) held)
+    unfolding few_parts
+    many_met h =
+        let many : few_parts ≡ false = grind (arith, nat_tests) in
+        subst (λ cs. is_cause_among cs cause.TooMany ≡ true) (sym (by_tests ∙ ap (λ b. tests (is_within limits t) (are_listed [] t) b is_small) many)) (count_test (is_within limits t) (are_listed [] t) is_small)
+
+    module _ (low : height t ≤ limits.height) (few : length (with_parts_of held (t ∷ [])) ≤ limits.nodes) where
+      low_tests : (small : Bool) → is_small ≡ small → causes_met limits (Some (Print p)) held ≡ tests true true true small
+      unfolding few_parts
+      low_tests small h =
+          let high : nat_le (height t) limits.height ≡ true = grind (arith, nat_tests) in
+          let enough : few_parts ≡ true = grind (arith, nat_tests) in
+          by_tests ∙ (λ i. tests ((within_is ∙ high) i) (plain_listed [] t plain i) (enough i) (h i))
+
+      -- a tree that is too large
+      pub large_met : limits.size < size t → Says code.TooLarge (causes_met limits (Some (Print p)) held)
+      unfolding is_small
+      large_met h =
+          let large : is_small ≡ false = grind (arith, nat_tests) in
+          subst (λ cs. is_cause_among cs cause.TooLarge ≡ true) (sym (low_tests false large)) large_test
+
+      -- a tree that meets no cause
+      pub clear_met : size t ≤ limits.size → causes_met limits (Some (Print p)) held ≡ []
+      unfolding is_small
+      clear_met h =
+          let small : is_small ≡ true = grind (arith, nat_tests) in
+          low_tests true small ∙ clear_test
 
 -- ---- forms
 
@@ -190,15 +212,12 @@ text_is s None = refl
 text_is s (Some form) = refl
 
 module _ (limits : Limits) (whole : Answer) where
-  -- The answer is that of the lines from here on, after the text so far; or it names too many parts
-  pub record Goes (lines : List Text) (n : ℕ) (text : Text) : Type 0 where
+  -- the answer is that of the lines from here on, after the text so far, and the parts that the lines so far left are held
+  pub record Goes (lines : List Text) (n : ℕ) (text : Text) (h : Heap Part) : Type 0 where
     pub state : State
     pub names : state.environment ≡ no_names
     pub is : whole ≡ answer_lines limits lines n state text
-
-  -- the answer names too many parts already, or goes on
-  abbrev pub GoesOn : List Text → ℕ → Text → Type 0
-  GoesOn lines n text = SpeaksOfCount whole ⊎ Goes lines n text
+    pub held : HoldsJust h state.parts
 
   -- the causes of the line, where no name is declared
   causes_here : (line : Text) (s : State) → s.environment ≡ no_names → causes_of limits s.environment s.parts (form_of line) ≡ causes_met limits (form_of line) s.parts
@@ -237,44 +256,70 @@ module _ (limits : Limits) (whole : Answer) where
   writes_alone : (s : State) (f : Option (Form Phrase)) → s.environment ≡ no_names → text_of_line s (resolved s.environment f) ≡ written f
   writes_alone s f names = text_is s (resolved s.environment f) ∙ ap (λ env. text_in env (resolved env f)) names ∙ sym (text_is start (resolved no_names f))
 
-  pub next_line : (line : Text) (lines : List Text) (n : ℕ) (old new : Text) → DeclaresNothing (form_of line) → GoesOn (line ∷ lines) n old → AnswersForm limits (form_of line) old new (Ok tt) → GoesOn lines (suc n) new
-  next_line line lines n old new simple (inl counts) a = inl counts
-  next_line line lines n old new simple (inr g) a = by (a.clear g.state.parts)
+  keeps_parts : (s : State) (f : Option (Form Phrase)) → s.environment ≡ no_names → (after_line limits s (resolved s.environment f)).parts ≡ parts_after limits f s.parts
+  keeps_parts s f names = ap (λ env. (after_line limits (record { environment = env; parts = s.parts }) (resolved env f)).parts) names
+
+  pub next_line : (line : Text) (lines : List Text) (n : ℕ) (old new : Text) (h k : Heap Part) → DeclaresNothing (form_of line) → (g : Goes (line ∷ lines) n old h) → AnswersForm limits (form_of line) g.state.parts old new k (Ok tt) → Goes lines (suc n) new k
+  next_line line lines n old new h k simple g a = record {
+    state = after_line limits g.state (resolved g.state.environment (form_of line));
+    names = keeps_names g.state (form_of line) g.names simple;
+    is = g.is ∙ clear_line line lines n old g.state (causes_here line g.state g.names ∙ a.clear)
+        ∙ ap (answer_lines limits lines (suc n) (after_line limits g.state (resolved g.state.environment (form_of line)))) (ap (λ w. old ++ w) (writes_alone g.state (form_of line) g.names) ∙ sym a.text);
+    held = subst (HoldsJust k) (sym (keeps_parts g.state (form_of line) g.names)) a.left;
+  }
+
+  pub fault_met : (line : Text) (lines : List Text) (n : ℕ) (old new : Text) (h k : Heap Part) (c : Cause) → (g : Goes (line ∷ lines) n old h) → AnswersForm limits (form_of line) g.state.parts old new k (Err c) → AllowsFault whole (record { line = n; cause = c })
+  fault_met line lines n old new h k c g a = ⊎_elim
+      (λ none. subst (AllowsCause whole n) (sym none) tt)
+      (says (cause_seen c))
+      a.fault
     where
-      by : (causes_met limits (form_of line) g.state.parts ≡ []) ⊎ CountsParts (causes_met limits (form_of line) g.state.parts) → GoesOn lines (suc n) new
-      by (inl none) = inr (record {
-        state = after_line limits g.state (resolved g.state.environment (form_of line));
-        names = keeps_names g.state (form_of line) g.names simple;
-        is = g.is ∙ clear_line line lines n old g.state (causes_here line g.state g.names ∙ none)
-            ∙ ap (answer_lines limits lines (suc n) (after_line limits g.state (resolved g.state.environment (form_of line)))) (ap (λ w. old ++ w) (writes_alone g.state (form_of line) g.names) ∙ sym a.text);
-      })
-      by (inr counts) = inl (subst SpeaksOfCount (sym (g.is ∙ fault_line line lines n old g.state (causes_met limits (form_of line) g.state.parts) (Some cause.TooMany) (causes_here line g.state g.names) counts)) counts)
+      says : (o : Option cause.Cause) → IsAmong (causes_met limits (form_of line) g.state.parts) o → AllowsCause whole n o
+      says None among = tt
+      says (Some d) among = subst (λ (w : Answer). Allows w (Fault n d))
+          (sym (g.is ∙ fault_line line lines n old g.state (causes_met limits (form_of line) g.state.parts) (Some d) (causes_here line g.state g.names) among)) (refl, among)
 
-  pub fault_met : (line : Text) (lines : List Text) (n : ℕ) (old new : Text) (c : Cause) → GoesOn (line ∷ lines) n old → AnswersForm limits (form_of line) old new (Err c) → AllowsFault whole (record { line = n; cause = c })
-  fault_met line lines n old new c (inl counts) a = inr (inr counts)
-  fault_met line lines n old new c (inr g) a = by a.fault
-    where
-      says : Says c (causes_met limits (form_of line) g.state.parts) ⊎ CountsParts (causes_met limits (form_of line) g.state.parts) → AllowsFault whole (record { line = n; cause = c })
-      says (inl h) = inr (inl (subst (λ (w : Answer). NamesFault w (record { line = n; cause = c }))
-          (sym (g.is ∙ fault_line line lines n old g.state (causes_met limits (form_of line) g.state.parts) (cause_seen c) (causes_here line g.state g.names) h)) (refl, h)))
-      says (inr counts) = inr (inr (subst SpeaksOfCount (sym (g.is ∙ fault_line line lines n old g.state (causes_met limits (form_of line) g.state.parts) (Some cause.TooMany) (causes_here line g.state g.names) counts)) counts))
+  module _ (lines : List Text) (n : ℕ) (text : Text) (h : Heap Part) (none : lines ≡ []) (g : Goes lines n text h) where
+    is_written : whole ≡ Writes text g.state
+    is_written = g.is ∙ ap (λ ls. answer_lines limits ls n g.state text) none
 
-      by : IsFree c ⊎ ((held : List Term) → Says c (causes_met limits (form_of line) held) ⊎ CountsParts (causes_met limits (form_of line) held)) → AllowsFault whole (record { line = n; cause = c })
-      by (inl free) = inl free
-      by (inr h) = says (h g.state.parts)
+    -- when no line is left, the text is the answer's, and so are the parts
+    pub end_text : Allows whole (Lines text)
+    end_text = subst (λ (w : Answer). Allows w (Lines text)) (sym is_written) refl
 
-  pub at_end : (lines : List Text) (n : ℕ) (text : Text) → lines ≡ [] → GoesOn lines n text → AllowsText whole text
-  at_end lines n text none (inl counts) = inr counts
-  at_end lines n text none (inr g) = inl (subst (λ (w : Answer). Allows w (spec.Lines text)) (sym (g.is ∙ ap (λ ls. answer_lines limits ls n g.state text) none)) refl)
+    pub end_parts : HoldsJust h (parts_left whole)
+    end_parts = subst (λ (w : Answer). HoldsJust h (parts_left w)) (sym is_written) g.held
 
--- at the start all lines are still to be taken
-pub at_start : (limits : Limits) (script : Text) → GoesOn (capped limits) (answer limits script) (lines_of script) 1 []
-at_start limits script = by (nat_le (length start_parts) (capped limits).nodes) refl
-  where
-    by : (b : Bool) → nat_le (length start_parts) (capped limits).nodes ≡ b → GoesOn (capped limits) (answer limits script) (lines_of script) 1 []
-    by true e = inr (record {
-      state = start;
-      names = refl;
-      is = ap (λ b. elim b [ true ↦ answer_lines (capped limits) (lines_of script) 1 start [] | false ↦ Meets 0 (cause.TooMany ∷ []) ]) e;
-    })
-    by false e = inl (subst SpeaksOfCount (sym (ap (λ b. elim b [ true ↦ answer_lines (capped limits) (lines_of script) 1 start [] | false ↦ Meets 0 (cause.TooMany ∷ []) ]) e)) refl)
+-- ---- the start
+
+module _ (limits : Limits) (script : Text) where
+  by_room : (b : Bool) → nat_le (length start_parts) (capped limits).nodes ≡ b
+      → answer limits script ≡ elim b [ true ↦ answer_lines (capped limits) (lines_of script) 1 start [] | false ↦ Meets 0 (cause.TooMany ∷ []) ]
+  by_room b e = ap (λ c. elim c [ true ↦ answer_lines (capped limits) (lines_of script) 1 start [] | false ↦ Meets 0 (cause.TooMany ∷ []) ]) e
+
+  -- at the start all lines are still to be taken
+  pub at_start : (h : Heap Part) → 39 ≤ (capped limits).nodes → HoldsJust h start_parts → Goes (capped limits) (answer limits script) (lines_of script) 1 [] h
+  at_start h room just =
+      let fits : nat_le 39 (capped limits).nodes ≡ true = grind (arith, nat_tests) in
+      record { state = start; names = refl; is = by_room true fits; held = just }
+
+  -- why there is no start
+  pub start_fault : (e : TermError) (c : Cause) → IsStartRefusal e → (e ≡ error.TooMany → (capped limits).nodes < 39) → c ≡ cause_of e → AllowsFault (answer limits script) (record { line = 0; cause = c })
+  start_fault error.TooMany c refused many is =
+      let few = many refl in
+      let full : nat_le 39 (capped limits).nodes ≡ false = grind (arith, nat_tests) in
+      subst (λ (d : Cause). AllowsFault (answer limits script) (record { line = 0; cause = d })) (sym is)
+      (subst (λ (w : Answer). Allows w (Fault 0 cause.TooMany)) (sym (by_room false full)) (refl, refl))
+  start_fault error.Memory c refused many is = subst (λ (d : Cause). AllowsFault (answer limits script) (record { line = 0; cause = d })) (sym is) tt
+  start_fault error.TooDeep c refused many is = absurd refused
+  start_fault error.Escapes c refused many is = absurd refused
+  start_fault error.MissingVar c refused many is = absurd refused
+
+-- a valid script is refused for want of memory alone
+only_memory_left : (text : Text) (after : State) (line : ℕ) (c : Cause) → AllowsCause (Writes text after) line (cause_seen c) → c ≡ code.Memory
+only_memory_left text after line code.Memory allowed = refl
+only_memory_left text after line _ allowed = absurd allowed
+
+pub only_memory : (a : Answer) (e : ScriptError) → Succeeds a → AllowsFault a e → e.cause ≡ code.Memory
+only_memory (Writes text after) e valid allowed = only_memory_left text after e.line e.cause allowed
+only_memory (Meets line causes) e valid allowed = absurd valid

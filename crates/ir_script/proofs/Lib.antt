@@ -9,6 +9,7 @@ pub mod MisfitLemmas
 pub mod PhraseLemmas
 pub mod MakeableLemmas
 pub mod PlainLemmas
+pub mod MadeLemmas
 pub mod AnswerLemmas
 pub mod PrintLemmas
 pub mod BuildLemmas

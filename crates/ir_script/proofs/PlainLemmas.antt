@@ -1,11 +1,11 @@
 -- What can be made so far has no variables and no binders.
-use Rattle.std.proofs.Common.{◌≡◌, ◌∙◌, Bool, true, false, ◌&&◌, ◌||◌, not, nat_le, List, [], ◌∷◌, map, Option, Some, None, refl, sym, ap, subst, true≢false}
+use Rattle.std.proofs.Common.{◌≡◌, ◌∙◌, Bool, true, false, ◌&&◌, ◌||◌, not, nat_le, List, [], ◌∷◌, map, Option, Some, None, inl, inr, refl, sym, ap, subst, true≢false}
 use Rattle.std.specs.Option.{option_map}
 use Rattle.std.specs.List.{list_all}
-use Rattle.std.proofs.lemmas.Bool.{and_parts, and_from}
+use Rattle.std.proofs.lemmas.Bool.{and_parts, and_from, or_cases}
 use Rattle.ir_core.specs.declared.ids.SolverDefId.{SolverDefId}
 use Rattle.ir_laws.specs.declared.words.Word.{Word}
-use Rattle.ir_laws.specs.declared.words.Word.TheVariants.{BoundVariable, TypeParameter, RegionParameter, ConstantParameter, CanonicalVariable}
+use Rattle.ir_laws.specs.declared.words.Word.TheVariants.{TypeList, BoundVariable, TypeParameter, RegionParameter, ConstantParameter, CanonicalVariable}
 use Rattle.ir_laws.specs.declared.labels.Sort.{Sort}
 use Rattle.ir_laws.specs.declared.labels.Sort.TheVariants.{OfType, OfRegion, OfConstant}
 use Rattle.ir_laws.specs.declared.labels.KidForm.{KidForm}
@@ -26,8 +26,8 @@ use Rattle.ir_script.specs.declared.phrases.Phrase as code
 use Rattle.ir_script.specs.declared.phrases.Field.{Field as CodeField}
 use Rattle.ir_script.specs.declared.phrases.Field.TheVariants as field
 use Rattle.ir_script.specs.Causes.{no_names}
-use Rattle.ir_script.specs.Makeable.{phrase_sort, is_makeable, kids_makeable, is_list_makeable, all_makeable}
-use Rattle.ir_script.specs.Phrases.{field_seen, phrase_seen, row_seen}
+use Rattle.ir_script.specs.Makeable.{phrase_sort, is_makeable, kids_makeable, is_list_makeable, all_makeable, is_buildable}
+use Rattle.ir_script.specs.Phrases.{field_seen, phrase_seen, phrases_seen, row_seen}
 use Rattle.ir_script.specs.Plain.{is_plain_word, is_plain, are_plain, only_keywords, is_simple, are_simple}
 use Rattle.ir_script.proofs.MakeableLemmas.{among_passes}
 
@@ -56,7 +56,7 @@ wants_plain form = true
 abbrev has_plain_kids : Word → Bool
 has_plain_kids w = list_all wants_plain (kid_forms (row w).parts)
 
-words_are_plain : list_all is_plain_word label_words ≡ true
+pub words_are_plain : list_all is_plain_word label_words ≡ true
 words_are_plain = refl
 
 kids_are_plain : list_all has_plain_kids label_words ≡ true
@@ -72,7 +72,7 @@ node_made false true c d e v x y z n h = absurd (true≢false (sym h))
 node_made false false true d e v x y z n h = absurd (true≢false (sym h))
 node_made false false false true e v x y z n h = absurd (true≢false (sym h))
 
-plain_made : (l : Label SolverDefId) (b : Option (List (Kind SolverDefId))) (ts : Terms) → is_plain_word l.word ≡ true → tree_made l b ts ≡ Some (Node l b ts)
+pub plain_made : (l : Label SolverDefId) (b : Option (List (Kind SolverDefId))) (ts : Terms) → is_plain_word l.word ≡ true → tree_made l b ts ≡ Some (Node l b ts)
 plain_made l b ts h = node_made (same_word l.word BoundVariable) (same_word l.word TypeParameter) (same_word l.word RegionParameter) (same_word l.word ConstantParameter) (same_word l.word CanonicalVariable)
     (variable_of l.fields) (parameter_of OfType l.fields) (parameter_of OfRegion l.fields) (parameter_of OfConstant l.fields) (Some (Node l b ts)) h
 
@@ -94,10 +94,10 @@ label_tree l ps ts word keywords kids plain =
 
 -- ---- what can be made has a plain tree
 
-abbrev Planted : Phrase → Type 0
+abbrev pub Planted : Phrase → Type 0
 Planted p = (t : Term) × (tree_of no_names p ≡ Some t) × (is_plain t ≡ true)
 
-abbrev AllPlanted : Phrases → Type 0
+abbrev pub AllPlanted : Phrases → Type 0
 AllPlanted ps = (ts : Terms) × (trees_of no_names ps ≡ Some ts) × (are_plain ts ≡ true)
 
 one_more : (p : Phrase) (ps : Phrases) → Planted p → AllPlanted ps → AllPlanted (ThenPhrase p ps)
@@ -152,6 +152,20 @@ mutual
       let m = and_parts (is_makeable p && same_sort (phrase_sort p) sort) (all_makeable sort ps) makeable in
       let s = and_parts (is_simple p) (are_simple ps) simple in
       one_more p ps (planted p (and_parts (is_makeable p) (same_sort (phrase_sort p) sort) m.0).0 s.0) (all_planted sort ps m.1 s.1)
+
+-- ---- what can be built has one, too
+
+pub built_planted : (p : code.Phrase) → is_buildable (phrase_seen p) ≡ true → Planted (phrase_seen p)
+built_planted p h = elim (or_cases (is_makeable (phrase_seen p)) (is_list_makeable TypeList OfType (phrase_seen p)) h) [
+  | inl term ↦ planted (phrase_seen p) term (seen_simple p)
+  | inr list ↦ list_planted TypeList OfType (phrase_seen p) refl list (seen_simple p)
+]
+
+pub all_built_planted : (ps : List code.Phrase) → list_all (λ p. is_buildable (phrase_seen p)) ps ≡ true → AllPlanted (phrases_seen ps)
+all_built_planted [] h = (End, refl, refl)
+all_built_planted (p ∷ ps) h =
+    let both = and_parts (is_buildable (phrase_seen p)) (list_all (λ q. is_buildable (phrase_seen q)) ps) h in
+    one_more (phrase_seen p) (phrases_seen ps) (built_planted p both.0) (all_built_planted ps both.1)
 
 -- ---- what a plain tree meets
 

@@ -1,23 +1,47 @@
 -- What the making of a phrase's term answers.
-use Rattle.std.specs.Prelude.{◌≡◌, ◌<◌, Some, Result, Err, IfOk, IfErr, IfSome}
+use Rattle.std.specs.Prelude.{◌≡◌, true, List, [], ◌∷◌, Some, Result, IfOk}
+use Rattle.std.specs.Global.{Global}
+use Rattle.std.specs.declared.vec.Vec.{Vec}
 use Rattle.ir_core.specs.declared.errors.TermError.{TermError}
-use Rattle.ir_core.specs.declared.errors.TermError.TheVariants as error
 use Rattle.ir_core.specs.declared.handles.Part.{Part}
-use Rattle.ir_laws.specs.Counts.{height}
+use Rattle.ir_laws.specs.declared.labels.Sort.TheVariants.{OfType}
+use Rattle.ir_laws.specs.declared.words.Word.TheVariants.{TypeList}
 use Rattle.ir_laws.specs.Environment as environment
-use Rattle.ir_laws.specs.Heap.{IsLive, Grows, tree_of}
-use Rattle.ir_laws.specs.Phrase.{Phrase}
-use Rattle.ir_table.specs.Fits.{part_sort}
-use Rattle.ir_table.specs.State.{State, IsRefusal}
+use Rattle.ir_laws.specs.Environment.{trees_of}
+use Rattle.ir_laws.specs.Heap.{Each, IsLive, forest, tree_of}
+use Rattle.ir_laws.specs.Parts.{parts, all_parts}
+use Rattle.ir_laws.specs.Phrase.{Phrase, Phrases, NoPhrase, ThenPhrase}
+use Rattle.ir_laws.specs.Tree.{Term, Terms}
+use Rattle.ir_table.specs.Fits.{part_sort, is_list_of}
+use Rattle.ir_table.specs.State.{State, Makes}
 use Rattle.ir_script.specs.Causes.{no_names}
-use Rattle.ir_script.specs.Makeable.{phrase_sort}
+use Rattle.ir_script.specs.Makeable.{phrase_sort, is_list_makeable}
 
--- On Ok the part is live and stands for the phrase's tree, and is of the phrase's sort. Whatever is answered, older parts stay as they are. It is too deep only where the tree is
+-- the part is of the phrase's sort, and a list of types where the phrase is
+pub record Suits (p : Phrase) (q : Part) : Type 0 where
+  pub sort : part_sort q ≡ phrase_sort p
+  pub types : is_list_makeable TypeList OfType p ≡ true → is_list_of TypeList q ≡ true
+
+-- each part suits its phrase
+abbrev pub AllSuit : Phrases → List Part → Type 0
+AllSuit NoPhrase [] = Unit {0}
+AllSuit (ThenPhrase p ps) (q ∷ qs) = Suits p q × AllSuit ps qs
+AllSuit ps qs = ⊥
+
+-- The phrase has a tree, and the parts of this are made. On Ok the part is live, stands for the tree and suits the phrase
 pub record Builds (old new : State) (p : Phrase) (r : Result Part TermError) : Type 0 where
+  pub made : Term
+  pub tree : environment.tree_of no_names p ≡ Some made
+  pub makes : Makes old new (parts made) r
   pub live : IfOk r (λ q. IsLive new.heap q)
-  pub tree : IfOk r (λ q. environment.tree_of no_names p ≡ Some (tree_of new.heap q))
-  pub sort : IfOk r (λ q. part_sort q ≡ phrase_sort p)
-  pub grows : Grows old.heap new.heap
-  pub too_deep : r ≡ Err error.TooDeep → IfSome (environment.tree_of no_names p) (λ t. old.high < height t)
-  pub causes : IfErr r IsRefusal
-  pub limits : (new.nodes ≡ old.nodes) × (new.high ≡ old.high)
+  pub stands : IfOk r (λ q. tree_of new.heap q ≡ made)
+  pub suits : IfOk r (Suits p)
+
+-- the same of several phrases
+pub record BuildsAll (old new : State) (ps : Phrases) (r : Result (Vec Part Global) TermError) : Type 0 where
+  pub made : Terms
+  pub trees : trees_of no_names ps ≡ Some made
+  pub makes : Makes old new (all_parts made) r
+  pub live : IfOk r (λ qs. Each (IsLive new.heap) qs.items)
+  pub stand : IfOk r (λ qs. forest (tree_of new.heap) qs.items ≡ made)
+  pub suit : IfOk r (λ qs. AllSuit ps qs.items)

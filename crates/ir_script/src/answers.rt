@@ -1,17 +1,19 @@
 //! What a script answers.
 ghost use Rattle.ir_core.specs.declared.handles.Part.{Part as PartSeen};
-ghost use Rattle.ir_laws.specs.Answer.{answer as answer_of};
+ghost use Rattle.ir_laws.specs.Answer.{IsValid, Allows, Lines, answer as answer_of};
 ghost use Rattle.ir_laws.specs.Form.{Print, form_of};
 ghost use Rattle.ir_laws.specs.Formed.{is_formed};
+ghost use Rattle.ir_laws.specs.Held.{HoldsJust};
 ghost use Rattle.ir_laws.specs.Limits.{capped};
-ghost use Rattle.ir_script.specs.Answered.{AllowsFault, AllowsText, AnswersForm};
+ghost use Rattle.ir_laws.specs.Tree.{Term};
+ghost use Rattle.ir_script.specs.Answered.{AllowsFault, AnswersForm, parts_left};
 ghost use Rattle.ir_script.specs.Makeable.{is_operand};
 ghost use Rattle.ir_script.specs.Phrases.{phrase_seen};
 ghost use Rattle.ir_table.specs.Fits.{part_sort};
-ghost use Rattle.ir_table.specs.Interner.{state};
+ghost use Rattle.ir_table.specs.Interner.{heap, state};
 ghost use Rattle.ir_table.specs.Limits.{limits_seen};
 ghost use Rattle.ir_table.specs.Spelled.{part_of};
-ghost use Rattle.std.specs.Prelude.{◌≡◌, ◌≢◌, ◌^◌, ◌<◌, true, Some, length, IfErr, IfOk};
+ghost use Rattle.std.specs.Prelude.{◌≡◌, ◌≢◌, ◌^◌, ◌<◌, true, Some, List, length, IfErr, IfOk};
 ghost use Rattle.ir_laws.specs.declared.labels.Sort.TheVariants.{OfList};
 
 use crate::build::build;
@@ -46,8 +48,9 @@ fn term_of(part: Part) -> AnyTerm
 {
     match part {
         Part::Ty(ty) => AnyTerm::Ty(ty),
+        Part::Const(constant) => AnyTerm::Const(constant),
         Part::Region(region) => AnyTerm::Region(region),
-        Part::Tys(_) => unreachable!(),
+        _ => unreachable!(),
     }
 }
 
@@ -60,9 +63,9 @@ fn print(
     out: &mut Text,
 ) -> Result<(), Cause>
     requires formed { is_formed (phrase_seen phrase.now) ≡ true }
-    requires high { (state cx.old).high ≡ (capped (limits_seen limits.now)).height }
-    ensures answers { AnswersForm (capped (limits_seen limits.now)) (Some (Print (phrase_seen phrase.now))) out.old out.new result }
-    ensures high { (state cx.new).high ≡ (state cx.old).high }
+    requires limits { (state cx.old).limits ≡ limits_seen limits.now }
+    ensures answers { (held : List Term) → HoldsJust (heap cx.old) held → AnswersForm (capped (limits_seen limits.now)) (Some (Print (phrase_seen phrase.now))) held out.old out.new (heap cx.new) result }
+    ensures limits { (state cx.new).limits ≡ (state cx.old).limits }
 {
     if unknown_name(phrase) {
         return Err(Cause::Unknown);
@@ -90,9 +93,9 @@ fn answer_line(
     line: &[u8],
     out: &mut Text,
 ) -> Result<(), Cause>
-    requires { (state cx.old).high ≡ (capped (limits_seen limits.now)).height }
-    ensures answers { AnswersForm (capped (limits_seen limits.now)) (form_of line.now) out.old out.new result }
-    ensures high { (state cx.new).high ≡ (state cx.old).high }
+    requires { (state cx.old).limits ≡ limits_seen limits.now }
+    ensures answers { (held : List Term) → HoldsJust (heap cx.old) held → AnswersForm (capped (limits_seen limits.now)) (form_of line.now) held out.old out.new (heap cx.new) result }
+    ensures limits { (state cx.new).limits ≡ (state cx.old).limits }
 {
     let Some(items) = expressions(alloc, line)? else {
         return Err(Cause::Syntax);
@@ -104,10 +107,13 @@ fn answer_line(
     }
 }
 
-/// What the script answers: its lines are taken in order, and the first that meets a cause ends it with that line's number and a cause of its earliest stage. Line 0 is the start. Only want of memory, and as long as parts aren't counted TooMany, come without a clause.
+/// What the script answers: its lines are taken in order, and the first that meets a cause ends it with that line's number and a cause of its earliest stage. Line 0 is the start. The interner holds the parts of the start and those of the lines' terms, and no others. A valid script is refused for want of memory alone, and only that comes without a clause.
 pub fn answer(alloc: Global, script: &[u8], limits: &Limits) -> Result<Answered, ScriptError>
-    ensures ok { IfOk result (λ a. AllowsText (answer_of (limits_seen limits.now) script.now) a.text) }
+    ensures ok { IfOk result (λ a. Allows (answer_of (limits_seen limits.now) script.now) (Lines a.text)) }
+    ensures held { IfOk result (λ a. HoldsJust (heap a.cx) (parts_left (answer_of (limits_seen limits.now) script.now))) }
+    ensures limits { IfOk result (λ a. (state a.cx).limits ≡ limits_seen limits.now) }
     ensures fault { IfErr result (AllowsFault (answer_of (limits_seen limits.now) script.now)) }
+    ensures complete { IsValid (limits_seen limits.now) script.now → IfErr result (λ e. e.cause ≡ Cause.Memory) }
 {
     let mut cx = match Interner::new(alloc, *limits) {
         Ok(cx) => cx,

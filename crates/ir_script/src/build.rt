@@ -1,20 +1,18 @@
 //! The making of terms: from phrases in which no name is looked up to parts of an interner.
 ghost use Rattle.ir_core.specs.declared.handles.Part.TheVariants as part;
-ghost use Rattle.ir_laws.specs.Counts.{heights};
-ghost use Rattle.ir_laws.specs.Environment.{field_in, trees_of};
-ghost use Rattle.ir_laws.specs.Heap.{Each, Grows, IsLive, forest, tree_of};
+ghost use Rattle.ir_laws.specs.Environment.{field_in};
+ghost use Rattle.ir_laws.specs.Heap.{Each};
 ghost use Rattle.ir_laws.specs.Phrase.{Labelled, NoPhrase, each_of};
 ghost use Rattle.ir_laws.specs.declared.labels.Sort.TheVariants.{OfType};
-ghost use Rattle.ir_script.specs.Built.{Builds};
+ghost use Rattle.ir_script.specs.Built.{Builds, BuildsAll};
 ghost use Rattle.ir_script.specs.Causes.{no_names};
-ghost use Rattle.ir_script.specs.Makeable.{is_buildable, phrase_sort};
+ghost use Rattle.ir_script.specs.Makeable.{is_buildable};
 ghost use Rattle.ir_script.specs.Phrases.{field_seen, phrase_seen, phrases_seen};
 ghost use Rattle.ir_table.specs.Fits.{part_sort};
-ghost use Rattle.ir_table.specs.Interner.{heap, state};
+ghost use Rattle.ir_table.specs.Interner.{state};
 ghost use Rattle.ir_table.specs.Kinds as table;
-ghost use Rattle.ir_table.specs.State.{IsRefusal};
 ghost use Rattle.std.specs.List.{list_all};
-ghost use Rattle.std.specs.Prelude.{◌≡◌, ◌<◌, [], true, Some, Err, map as mapped, IfErr, IfOk, IfSome, OnErr};
+ghost use Rattle.std.specs.Prelude.{◌≡◌, [], true, Some, Err, map as mapped, IfOk, OnErr};
 
 use crate::phrases::{Field, Phrase};
 use ir_core::{Part, R, TermError, Ty, Tys};
@@ -79,14 +77,7 @@ pub(crate) fn build(alloc: Global, cx: &mut Interner, phrase: &Phrase) -> R<Part
 #[cycle(build)]
 fn build_all(alloc: Global, cx: &mut Interner, kids: &[Phrase]) -> R<Vec<Part>>
     requires { list_all (λ p. is_buildable (phrase_seen p)) kids.now ≡ true }
-    ensures live { IfOk result (λ parts. Each (IsLive (heap cx.new)) parts.items) }
-    ensures trees { IfOk result (λ parts. trees_of no_names (phrases_seen kids.now) ≡ Some (forest (tree_of (heap cx.new)) parts.items)) }
-    ensures sorts { IfOk result (λ parts. mapped part_sort parts.items ≡ mapped (λ p. phrase_sort (phrase_seen p)) kids.now) }
-    ensures grows { Grows (heap cx.old) (heap cx.new) }
-    ensures too_deep { result ≡ Err TermError.TooDeep → IfSome (trees_of no_names (phrases_seen kids.now)) (λ ts. (state cx.old).high < heights ts) }
-    ensures causes { IfErr result IsRefusal }
-    ensures nodes { (state cx.new).nodes ≡ (state cx.old).nodes }
-    ensures high { (state cx.new).high ≡ (state cx.old).high }
+    ensures { BuildsAll (state cx.old) (state cx.new) (phrases_seen kids.now) result }
 {
     let mut parts = Vec::new(alloc);
     for kid in kids {

@@ -1,10 +1,11 @@
 -- What a caller of `new` cites.
-use Rattle.std.proofs.Common.{◌≡◌, ◌≤◌, ◌∙◌, refl, List, Option, None, Some, length, slice_get, option_map, Result, Ok, Err, IfOk, IsOk, subst, sym, ap, arith}
+use Rattle.std.proofs.Common.{◌≡◌, ◌≤◌, ◌∙◌, refl, ℕ, List, [], Option, None, Some, length, slice_get, option_map, Result, Ok, Err, IfOk, IsOk, subst, sym, ap, arith}
 use Rattle.std.proofs.lemmas.Option.{none-some, same_Some}
+use Rattle.ir_laws.specs.Held.{Stands}
 use Rattle.ir_laws.specs.Heap.{Shape, Sketch, plant, forest, Heap, IsLive, Grows, Holds, HasNode, IsSound, tree_of, height_above}
 use Rattle.ir_laws.specs.Counts.{sort_of, sort_of_label}
 use Rattle.ir_laws.specs.declared.labels.Sort.{Sort}
-use Rattle.ir_laws.specs.declared.labels.Sort.TheVariants.{OfType, OfRegion, OfList}
+use Rattle.ir_laws.specs.declared.labels.Sort.TheVariants.{OfType, OfRegion, OfConstant, OfList}
 use Rattle.ir_core.specs.declared.handles.Part.{Part}
 use Rattle.ir_core.specs.declared.handles.Part.TheVariants as part
 use Rattle.ir_core.specs.declared.handles.Ty.{Ty}
@@ -13,16 +14,22 @@ use Rattle.ir_core.specs.declared.kinds.UintTy.TheVariants as uint
 use Rattle.ir_core.specs.declared.kinds.FloatTy.TheVariants as float
 use Rattle.ir_core.specs.declared.kinds.TyKind.{TyKind}
 use Rattle.ir_core.specs.declared.kinds.TyKind.TheVariants as kind
+use Rattle.ir_core.specs.declared.kinds.ConstKind.{ConstKind}
+use Rattle.ir_core.specs.declared.kinds.ConstKind.TheVariants as konst
 use Rattle.ir_core.specs.declared.kinds.RegionKind.{RegionKind}
 use Rattle.ir_core.specs.declared.kinds.RegionKind.TheVariants as region
 use Rattle.ir_table.specs.declared.parts.Cached.{Cached}
 use Rattle.ir_table.specs.Fits.{part_sort}
-use Rattle.ir_table.specs.Kinds.{heap_of, ty_shape, ty_sketch, region_shape, region_sketch, tys_sketch}
+use Rattle.ir_table.specs.Kinds.{heap_of, ty_shape, ty_kids, const_shape, region_shape, tys_shape, tys_kids, variables_shape, variances_shape, empty_shape, empty_at, sketch_of}
+use Rattle.ir_table.specs.declared.store.EmptyList.{EmptyList}
+use Rattle.ir_table.specs.declared.store.EmptyList.TheVariants as empty
+use Rattle.ir_table.specs.declared.store.Tables.{Tables}
+use Rattle.ir_table.proofs.PartLemmas.{empty_pair}
 use Rattle.ir_laws.proofs.HeapLemmas.{Grows-refl, tree_of-injective, node_of, tree_of-node}
 use Rattle.ir_core.specs.declared.errors.TermError.{TermError}
 use Rattle.ir_core.specs.declared.errors.TermError.TheVariants as error
 use Rattle.ir_laws.specs.Tree.{Term}
-use Rattle.ir_table.specs.State.{State, NewAnswers, Stands}
+use Rattle.ir_table.specs.State.{State, NewAnswers, highest, width}
 
 module _ {T : Type 0} {name : T → Part} {old new : State} {shape : Shape} {kids : List Part} where
   -- whatever it answers, the heap grew
@@ -39,7 +46,7 @@ module _ {T : Type 0} {name : T → Part} {old new : State} {shape : Shape} {kid
   new_tree (Err e) a = tt
 
   -- a node that is held is given its name, and no memory is needed
-  pub new_succeeds : Holds old.heap shape kids → height_above old.heap kids ≤ old.high → length kids ≤ 8 → (r : Result T TermError) → NewAnswers name old new shape kids r → IsOk r
+  pub new_succeeds : Holds old.heap shape kids → height_above old.heap kids ≤ highest old → width shape kids ≤ 8 → (r : Result T TermError) → NewAnswers name old new shape kids r → IsOk r
   new_succeeds held low few (Ok t) a = refl
   new_succeeds held low few (Err error.TooMany) a = absurd ((a.too_many refl).0 held)
   new_succeeds held low few (Err error.TooDeep) a = let deep = a.too_deep refl in absurd (omega arith)
@@ -93,18 +100,42 @@ region_sort region.ReStatic = refl
 region_sort region.ReErased = refl
 region_sort (region.ReError e) = refl
 
+const_sort : (k : ConstKind) → sort_of_label (const_shape k).label ≡ OfConstant
+const_sort (konst.Error e) = refl
+
+empty_sort : (k : EmptyList) → sort_of_label (empty_shape k).label ≡ OfList
+empty_sort empty.GenericArgs = refl
+empty_sort empty.PatList = refl
+empty_sort empty.BoundExistentialPredicates = refl
+empty_sort empty.Clauses = refl
+empty_sort empty.RegionAssumptions = refl
+
 sketch_sort : {E : Type 0} (f : E → Sketch Part) (sort : Sort) → ((e : E) → sort_of_label (f e).shape.label ≡ sort) → (o : Option E) (s : Sketch Part) → option_map f o ≡ Some s → sort_of_label s.shape.label ≡ sort
 sketch_sort f sort all None s e = absurd (none-some s e)
 sketch_sort f sort all (Some x) s e = ap (λ (t : Sketch Part). sort_of_label t.shape.label) (sym (same_Some (f x) s e)) ∙ all x
 
-module _ (tys : List (TyKind × Cached)) (regions : List (RegionKind × Cached)) (lists : List (List Ty × Cached)) where
-  node_sort : (p : Part) (s : Sketch Part) → heap_of tys regions lists p ≡ Some s → sort_of_label s.shape.label ≡ part_sort p
-  unfolding heap_of
-  node_sort (part.Ty t) s e = sketch_sort ty_sketch OfType (λ x. ty_sort x.0) (slice_get tys t.position) s e
-  node_sort (part.Region r) s e = sketch_sort region_sketch OfRegion (λ x. region_sort x.0) (slice_get regions r.position) s e
-  node_sort (part.Tys ts) s e = sketch_sort tys_sketch OfList (λ x. refl) (slice_get lists ts.position) s e
+module _ (t : Tables) where
+  kind_sort : {K : Type 0} (shape : K → Shape) (kids : K → List Part) (es : List (K × Cached)) (sort : Sort) → ((k : K) → sort_of_label (shape k).label ≡ sort) → (i : ℕ) (s : Sketch Part) → option_map (sketch_of shape kids) (slice_get es i) ≡ Some s → sort_of_label s.shape.label ≡ sort
+  kind_sort shape kids es sort all i s e = sketch_sort (sketch_of shape kids) sort (λ x. all x.0) (slice_get es i) s e
 
-  pub live_sort : IsSound (heap_of tys regions lists) → (p : Part) → IsLive (heap_of tys regions lists) p → sort_of (tree_of (heap_of tys regions lists) p) ≡ part_sort p
+  empty_list_sort : (k : EmptyList) (o : Option (EmptyList × Cached)) (s : Sketch Part) → empty_at k o ≡ Some s → sort_of_label s.shape.label ≡ OfList
+  empty_list_sort k o s e = let p = empty_pair k o s e in sym (ap (λ (u : Sketch Part). sort_of_label u.shape.label) p.2) ∙ empty_sort k
+
+  node_sort : (p : Part) (s : Sketch Part) → heap_of t p ≡ Some s → sort_of_label s.shape.label ≡ part_sort p
+  unfolding heap_of
+  node_sort (part.Ty h) s e = kind_sort ty_shape ty_kids t.tys OfType ty_sort h.position s e
+  node_sort (part.Const h) s e = kind_sort const_shape (λ _. []) t.consts OfConstant const_sort h.position s e
+  node_sort (part.Region h) s e = kind_sort region_shape (λ _. []) t.regions OfRegion region_sort h.position s e
+  node_sort (part.Tys h) s e = kind_sort tys_shape tys_kids t.type_lists OfList (λ _. refl) h.position s e
+  node_sort (part.BoundVarKinds h) s e = kind_sort variables_shape (λ _. []) t.variable_lists OfList (λ _. refl) h.position s e
+  node_sort (part.VariancesOf h) s e = kind_sort variances_shape (λ _. []) t.variance_lists OfList (λ _. refl) h.position s e
+  node_sort (part.GenericArgs h) s e = empty_list_sort empty.GenericArgs (slice_get t.empty_lists h.position) s e
+  node_sort (part.PatList h) s e = empty_list_sort empty.PatList (slice_get t.empty_lists h.position) s e
+  node_sort (part.BoundExistentialPredicates h) s e = empty_list_sort empty.BoundExistentialPredicates (slice_get t.empty_lists h.position) s e
+  node_sort (part.Clauses h) s e = empty_list_sort empty.Clauses (slice_get t.empty_lists h.position) s e
+  node_sort (part.RegionAssumptions h) s e = empty_list_sort empty.RegionAssumptions (slice_get t.empty_lists h.position) s e
+
+  pub live_sort : IsSound (heap_of t) → (p : Part) → IsLive (heap_of t) p → sort_of (tree_of (heap_of t) p) ≡ part_sort p
   live_sort sound p live =
-      let x = node_of (heap_of tys regions lists) p live in
-      ap sort_of (tree_of-node (heap_of tys regions lists) sound p x.0 x.1) ∙ node_sort p x.0 x.1
+      let x = node_of (heap_of t) p live in
+      ap sort_of (tree_of-node (heap_of t) sound p x.0 x.1) ∙ node_sort p x.0 x.1

@@ -17,24 +17,20 @@ use Rattle.ir_table.specs.Kinds.{Fields}
 
 a_region : (ps : List Part) → kids_fit (OneOf OfRegion ∷ OneOf OfType ∷ []) ps ≡ true → (r : Region) × (slice_get ps 0 ≡ Some (part.Region r))
 a_region [] e = absurd (true≢false (sym e))
-a_region (part.Ty t ∷ ps) e = absurd (true≢false (sym e))
 a_region (part.Region r ∷ ps) e = (r, refl)
-a_region (part.Tys ts ∷ ps) e = absurd (true≢false (sym e))
+a_region (p ∷ ps) e = absurd (true≢false (sym e))
 
 a_type : (ps : List Part) → kids_fit (OneOf OfRegion ∷ OneOf OfType ∷ []) ps ≡ true → (t : Ty) × (slice_get ps 1 ≡ Some (part.Ty t))
-a_type [] e = absurd (true≢false (sym e))
-a_type (part.Ty t ∷ ps) e = absurd (true≢false (sym e))
-a_type (part.Tys ts ∷ ps) e = absurd (true≢false (sym e))
-a_type (part.Region r ∷ []) e = absurd (true≢false (sym e))
 a_type (part.Region r ∷ part.Ty t ∷ ps) e = (t, refl)
-a_type (part.Region r ∷ part.Region s ∷ ps) e = absurd (true≢false (sym e))
-a_type (part.Region r ∷ part.Tys ts ∷ ps) e = absurd (true≢false (sym e))
+a_type [] e = absurd (true≢false (sym e))
+a_type (part.Region r ∷ []) e = absurd (true≢false (sym e))
+a_type (part.Region r ∷ p ∷ ps) e = absurd (true≢false (sym e))
+a_type (p ∷ ps) e = absurd (true≢false (sym e))
 
 a_list : (ps : List Part) → kids_fit (ListOf TypeList OfType Fine ∷ []) ps ≡ true → (ts : Tys) × (slice_get ps 0 ≡ Some (part.Tys ts))
-a_list [] e = absurd (true≢false (sym e))
-a_list (part.Ty t ∷ ps) e = absurd (true≢false (sym e))
-a_list (part.Region r ∷ ps) e = absurd (true≢false (sym e))
 a_list (part.Tys ts ∷ ps) e = (ts, refl)
+a_list [] e = absurd (true≢false (sym e))
+a_list (p ∷ ps) e = absurd (true≢false (sym e))
 
 module _ (w : Word) (fs : Fields) (ps : List Part) (fits : FitsRow w fs ps) where
   at : (v : Word) → w ≡ v → kids_fit (kid_forms (row v).parts) ps ≡ true

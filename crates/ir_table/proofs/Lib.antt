@@ -5,6 +5,9 @@ pub mod StateLemmas
 pub mod SortLemmas
 pub mod Sorts
 pub mod CallerLemmas
+pub mod MakesLemmas
+pub mod StartLemmas
+pub mod EmptyLemmas
 pub mod NodeLemmas
 pub mod JoinLemmas
 pub mod SpellingLemmas

@@ -1,19 +1,36 @@
 -- What a value beside a list's items says.
-use Rattle.std.proofs.Common.{◌≡◌, ℕ, ◌+◌, ◌<◌, max, min, arith, List, ◌∷◌, length, drop, get_or, Option, None, Some, ap, sym, subst, map, ◌∙◌}
+use Rattle.std.proofs.Common.{◌≡◌, ℕ, ◌+◌, ◌<◌, max, min, arith, List, ◌∷◌, length, drop, get_or, Option, None, Some, IsSome, refl, ap, sym, subst, map, ◌∙◌}
 use Rattle.std.proofs.lemmas.List.{drop_more, length-map, get_or-map}
-use Rattle.ir_laws.specs.Heap.{Each, largest, total, size_cap}
+use Rattle.ir_laws.specs.Heap.{Shape, Sketch, Each, largest, total, size_cap}
 use Rattle.std.specs.Option.{option_map, option_map_or}
-use Rattle.ir_core.specs.declared.handles.Ty.{Ty}
+use Rattle.std.proofs.lemmas.Option.{same_Some}
+use Rattle.ir_core.specs.declared.handles.Part.{Part}
+use Rattle.ir_table.specs.declared.store.EmptyList.{EmptyList}
 use Rattle.ir_table.specs.declared.parts.Cached.{Cached}
-use Rattle.ir_table.specs.Kinds.{tys_sketch}
+use Rattle.ir_table.specs.Kinds.{empty_at, sketch_of}
+use Rattle.ir_table.proofs.PartLemmas.{empty_pair}
 
-pub height_from_value : (o : Option (List Ty × Cached)) (v : Cached) → option_map (λ e. e.1) o ≡ Some v → v.height ≡ option_map_or (λ s. s.height) (option_map tys_sketch o) 0
-height_from_value None v e = absurd cc
-height_from_value (Some x) v e = let w : x.1 ≡ v = cc in ap (λ (c : Cached). c.height) (sym w)
+-- what is kept of a part, as the heap has it
+abbrev pub IsKeptOf : Option (Sketch Part) → Cached → Type 0
+IsKeptOf o c = (c.height ≡ option_map_or (λ s. s.height) o 0) × (c.size ≡ option_map_or (λ s. s.size) o 0)
 
-pub size_from_value : (o : Option (List Ty × Cached)) (v : Cached) → option_map (λ e. e.1) o ≡ Some v → v.size ≡ option_map_or (λ s. s.size) (option_map tys_sketch o) 0
-size_from_value None v e = absurd cc
-size_from_value (Some x) v e = let w : x.1 ≡ v = cc in ap (λ (c : Cached). c.size) (sym w)
+-- it is what the pair has
+pub pair_cached : {K : Type 0} (shape : K → Shape) (kids : K → List Part) (o : Option (K × Cached)) (c : Cached) → option_map (λ e. e.1) o ≡ Some c → IsKeptOf (option_map (sketch_of shape kids) o) c
+pair_cached shape kids None c e = absurd cc
+pair_cached shape kids (Some x) c e = let same = same_Some x.1 c e in (ap (λ (d : Cached). d.height) (sym same), ap (λ (d : Cached). d.size) (sym same))
+
+pub value_of_pair : {K : Type 0} (o : Option (K × Cached)) (e : K × Cached) → o ≡ Some e → option_map (λ x. x.1) o ≡ Some e.1
+value_of_pair o e is = ap (option_map (λ x. x.1)) is
+
+pub empty_cached : (k : EmptyList) (o : Option (EmptyList × Cached)) (c : Cached) → IsSome (empty_at k o) → option_map (λ e. e.1) o ≡ Some c → IsKeptOf (empty_at k o) c
+empty_cached k o c live e = by (empty_at k o) refl live
+  where
+    by : (s : Option (Sketch Part)) → empty_at k o ≡ s → IsSome s → IsKeptOf (empty_at k o) c
+    by None is l = absurd cc
+    by (Some s) is l =
+        let p = empty_pair k o s is in
+        let same : p.0 ≡ c = same_Some p.0 c (sym (ap (option_map (λ (x : EmptyList × Cached). x.1)) p.1) ∙ e) in
+        subst (λ t. IsKeptOf t c) (sym is) (subst (λ (t : Sketch Part). (c.height ≡ t.height) × (c.size ≡ t.size)) p.2 (ap (λ (d : Cached). d.height) (sym same), ap (λ (d : Cached). d.size) (sym same)))
 
 -- one step over names, by what is left of them
 module _ {P : Type 0} (xs : List P) (i : ℕ) (d : P) (within : i < length xs) where

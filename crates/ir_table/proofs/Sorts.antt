@@ -1,52 +1,88 @@
 -- The sorts.
-use Rattle.std.proofs.Common.{◌+◌, List, [], length, refl, arith}
+use Rattle.std.proofs.Common.{◌+◌, List, [], refl, arith}
 use Rattle.std.proofs.lemmas.List.{length_push}
 use Rattle.ir_core.specs.declared.handles.Ty.{Ty}
+use Rattle.ir_core.specs.declared.limit.Limits.{Limits}
 use Rattle.ir_core.specs.declared.kinds.TyKind.{TyKind}
+use Rattle.ir_core.specs.declared.kinds.ConstKind.{ConstKind}
 use Rattle.ir_core.specs.declared.kinds.RegionKind.{RegionKind}
-use Rattle.ir_table.specs.declared.parts.Cached.{Cached}
+use Rattle.ir_core.specs.declared.kinds.BoundVarKind.{BoundVarKind}
+use Rattle.ir_core.specs.declared.kinds.Variance.{Variance}
 use Rattle.ir_core.specs.declared.handles.Part.TheVariants as part
-use Rattle.ir_table.specs.Kinds.{ty_shape, region_shape, tys_shape, ty_kids, tys_kids, heap_of}
-use Rattle.ir_table.proofs.PartLemmas.{adds_ty, fresh_ty, at_ty, adds_region, fresh_region, at_region, adds_tys, fresh_tys, at_tys}
-use Rattle.ir_table.specs.declared.Interner.{Interner}
-use Rattle.ir_table.specs.State.{State}
-use Rattle.ir_table.proofs.SortLemmas.{IsSort}
+use Rattle.ir_table.specs.declared.parts.Cached.{Cached}
+use Rattle.ir_table.specs.declared.store.EmptyList.{EmptyList}
+use Rattle.ir_table.specs.declared.store.Store.{Store}
+use Rattle.ir_table.specs.declared.store.Tables.{Tables}
+use Rattle.ir_table.specs.Kinds.{ty_shape, const_shape, region_shape, tys_shape, variables_shape, variances_shape, empty_shape, empty_part, ty_kids, tys_kids}
+use Rattle.ir_table.specs.Interner.{state_of, stored}
+use Rattle.ir_table.proofs.PartLemmas.{with_tys, with_consts, with_regions, with_type_lists, with_variable_lists, with_variance_lists, with_empty_lists, ty_table, const_table, region_table, tys_table, variables_table, variances_table, table_adds, table_fresh, table_at, empty_adds, empty_fresh, empty_stands}
+use Rattle.ir_table.proofs.SortLemmas.{IsSort, IsKept}
 
-abbrev pub ty_put : Interner → List (TyKind × Cached) → State
-ty_put cx es = record { heap = heap_of es cx.regions cx.lists; count = length es + length cx.regions + length cx.lists; nodes = cx.nodes; high = cx.high }
+-- the tables of a store are kept well
+pub kept : (s : Store) → IsKept (stored s)
+kept s = record { sound = s.sound; counted = s.counted; few = s.few; low = s.low }
 
-pub ty_sort : (cx : Interner) → IsSort part.Ty (λ i. record { position = i }) ty_shape ty_kids (ty_put cx)
-ty_sort cx = record {
-  adds = λ es e. adds_ty es cx.regions cx.lists e;
-  fresh = λ es k. fresh_ty es cx.regions cx.lists k;
-  at = λ es i k c e. at_ty es cx.regions cx.lists k i c e;
-  count = λ es e. let l = length_push es e in omega arith;
-  nodes = λ es fs. refl;
-  high = λ es fs. refl;
-}
+module _ (t : Tables) (limits : Limits) where
+  pub ty_sort : IsSort (λ _. part.Ty) (λ i. record { position = i }) ty_shape ty_kids (λ es. state_of (with_tys t es) limits)
+  ty_sort = record {
+    adds = table_adds (ty_table t);
+    fresh = table_fresh (ty_table t);
+    at = table_at (ty_table t);
+    count = λ es e. let l = length_push es e in omega arith;
+    limits = λ es fs. refl;
+  }
 
-abbrev pub region_put : Interner → List (RegionKind × Cached) → State
-region_put cx es = record { heap = heap_of cx.tys es cx.lists; count = length cx.tys + length es + length cx.lists; nodes = cx.nodes; high = cx.high }
+  pub const_sort : IsSort (λ _. part.Const) (λ i. record { position = i }) const_shape (λ _. []) (λ es. state_of (with_consts t es) limits)
+  const_sort = record {
+    adds = table_adds (const_table t);
+    fresh = table_fresh (const_table t);
+    at = table_at (const_table t);
+    count = λ es e. let l = length_push es e in omega arith;
+    limits = λ es fs. refl;
+  }
 
-pub region_sort : (cx : Interner) → IsSort part.Region (λ i. record { position = i }) region_shape (λ _. []) (region_put cx)
-region_sort cx = record {
-  adds = λ es e. adds_region cx.tys es cx.lists e;
-  fresh = λ es k. fresh_region cx.tys es cx.lists k;
-  at = λ es i k c e. at_region cx.tys es cx.lists k i c e;
-  count = λ es e. let l = length_push es e in omega arith;
-  nodes = λ es fs. refl;
-  high = λ es fs. refl;
-}
+  pub region_sort : IsSort (λ _. part.Region) (λ i. record { position = i }) region_shape (λ _. []) (λ es. state_of (with_regions t es) limits)
+  region_sort = record {
+    adds = table_adds (region_table t);
+    fresh = table_fresh (region_table t);
+    at = table_at (region_table t);
+    count = λ es e. let l = length_push es e in omega arith;
+    limits = λ es fs. refl;
+  }
 
-abbrev pub tys_put : Interner → List (List Ty × Cached) → State
-tys_put cx es = record { heap = heap_of cx.tys cx.regions es; count = length cx.tys + length cx.regions + length es; nodes = cx.nodes; high = cx.high }
+  pub tys_sort : IsSort (λ _. part.Tys) (λ i. record { position = i }) tys_shape tys_kids (λ es. state_of (with_type_lists t es) limits)
+  tys_sort = record {
+    adds = table_adds (tys_table t);
+    fresh = table_fresh (tys_table t);
+    at = table_at (tys_table t);
+    count = λ es e. let l = length_push es e in omega arith;
+    limits = λ es fs. refl;
+  }
 
-pub tys_sort : (cx : Interner) → IsSort part.Tys (λ i. record { position = i }) (λ _. tys_shape) tys_kids (tys_put cx)
-tys_sort cx = record {
-  adds = λ es e. adds_tys cx.tys cx.regions es e;
-  fresh = λ es k. fresh_tys cx.tys cx.regions es k;
-  at = λ es i k c e. at_tys cx.tys cx.regions es k i c e;
-  count = λ es e. let l = length_push es e in omega arith;
-  nodes = λ es fs. refl;
-  high = λ es fs. refl;
-}
+  pub variables_sort : IsSort (λ _. part.BoundVarKinds) (λ i. record { position = i }) variables_shape (λ _. []) (λ es. state_of (with_variable_lists t es) limits)
+  variables_sort = record {
+    adds = table_adds (variables_table t);
+    fresh = table_fresh (variables_table t);
+    at = table_at (variables_table t);
+    count = λ es e. let l = length_push es e in omega arith;
+    limits = λ es fs. refl;
+  }
+
+  pub variances_sort : IsSort (λ _. part.VariancesOf) (λ i. record { position = i }) variances_shape (λ _. []) (λ es. state_of (with_variance_lists t es) limits)
+  variances_sort = record {
+    adds = table_adds (variances_table t);
+    fresh = table_fresh (variances_table t);
+    at = table_at (variances_table t);
+    count = λ es e. let l = length_push es e in omega arith;
+    limits = λ es fs. refl;
+  }
+
+  -- a list without members is named by its sort and its place
+  pub empty_sort : IsSort empty_part (λ i. i) empty_shape (λ _. []) (λ es. state_of (with_empty_lists t es) limits)
+  empty_sort = record {
+    adds = empty_adds t;
+    fresh = empty_fresh t;
+    at = empty_stands t;
+    count = λ es e. let l = length_push es e in omega arith;
+    limits = λ es fs. refl;
+  }

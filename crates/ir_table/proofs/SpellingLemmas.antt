@@ -13,6 +13,8 @@ use Rattle.ir_core.specs.declared.handles.Part.{Part}
 use Rattle.ir_core.specs.declared.handles.Part.TheVariants as part
 use Rattle.ir_core.specs.declared.kinds.TyKind.{TyKind}
 use Rattle.ir_core.specs.declared.kinds.TyKind.TheVariants as kind
+use Rattle.ir_core.specs.declared.kinds.ConstKind.{ConstKind}
+use Rattle.ir_core.specs.declared.kinds.ConstKind.TheVariants as konst
 use Rattle.ir_core.specs.declared.kinds.RegionKind.{RegionKind}
 use Rattle.ir_core.specs.declared.kinds.RegionKind.TheVariants as region
 use Rattle.ir_core.specs.declared.kinds.IntTy.TheVariants as int
@@ -26,11 +28,21 @@ use Rattle.ir_laws.specs.declared.labels.KidForm.{KidForm}
 use Rattle.ir_laws.specs.Tree.{Text, Term}
 use Rattle.ir_laws.specs.Keyword.{fixed_text}
 use Rattle.ir_laws.specs.Label.{row}
-use Rattle.ir_laws.specs.Spelling.{field_text, in_brackets, label_text, part_texts, spaced, spell, spell_each, word_text}
-use Rattle.ir_laws.specs.Heap.{Shape, Heap, HasNode, Each, IsLive, cached_height, forest, largest, tree_of}
-use Rattle.ir_laws.proofs.HeapLemmas.{Each-both, Each-largest}
+use Rattle.ir_laws.specs.Spelling.{bind_texts, field_text, in_brackets, label_text, part_texts, spaced, spell, spell_each, word_text}
+use Rattle.ir_laws.specs.Counts.{sort_of}
+use Rattle.ir_laws.specs.Same.{same_sort}
+use Rattle.ir_laws.specs.declared.labels.Sort.TheVariants.{OfList}
+use Rattle.ir_laws.specs.Heap.{Shape, Heap, HasNode, Each, IsLive, IsSound, plant, cached_height, forest, largest, tree_of}
+use Rattle.ir_laws.proofs.HeapLemmas.{Each-both, Each-largest, node_of, tree_of-node}
+use Rattle.ir_core.specs.declared.handles.Const.{Const}
+use Rattle.ir_core.specs.declared.handles.Region.{Region}
+use Rattle.ir_core.specs.declared.handles.Tys.{Tys}
+use Rattle.ir_table.specs.declared.store.Tables.{Tables}
+use Rattle.ir_table.specs.Fits.{part_sort}
+use Rattle.ir_table.proofs.CallerLemmas.{live_sort}
+use Rattle.ir_table.proofs.PartLemmas.{no_kids}
 use Rattle.ir_table.specs.declared.parts.Node.{Node}
-use Rattle.ir_table.specs.Kinds.{field_seen, fields_of, node_kids, node_shape, ty_shape, region_shape, tys_kids, tys_shape}
+use Rattle.ir_table.specs.Kinds.{heap_of, field_seen, fields_of, node_kids, node_shape, ty_shape, const_shape, region_shape, tys_kids, tys_shape}
 use Rattle.ir_table.specs.Spelled.{Begins, IsNoList, after_each, kid_texts, list_text, node_text, places_text}
 
 -- ---- what was there comes first still
@@ -99,9 +111,9 @@ module _ (name : SolverDefId → Text) (h : Heap Part) where
       ∙ ap (label_text name shape.label shape.bind) (sym (spell_each-forest name (tree_of h) kids))
       ∙ ap (spell name) (sym has.tree)
 
-  pub list_spelled : (p : Part) (tys : List Ty) → HasNode h p tys_shape (tys_kids tys) → list_text name h tys ≡ spell name (tree_of h p)
+  pub list_spelled : (p : Part) (tys : List Ty) → HasNode h p (tys_shape tys) (tys_kids tys) → list_text name h tys ≡ spell name (tree_of h p)
   unfolding node_text list_text
-  list_spelled p tys has = node_spelled p tys_shape (tys_kids tys) has tys_shape (tys_kids tys) refl refl
+  list_spelled p tys has = node_spelled p (tys_shape tys) (tys_kids tys) has (tys_shape tys) (tys_kids tys) refl refl
 
   module _ (n : Node) (no_list : IsNoList (node_shape n)) where
     word_of_node : node_text name h (node_shape n) (node_kids n)
@@ -162,6 +174,10 @@ unfolding IsNoList
 region_no_list region.ReStatic = refl
 region_no_list region.ReErased = refl
 region_no_list (region.ReError e) = refl
+
+pub const_no_list : (k : ConstKind) → IsNoList (const_shape k)
+unfolding IsNoList
+const_no_list (konst.Error e) = refl
 
 -- ---- the places of a node
 
@@ -252,3 +268,20 @@ module _ (name : SolverDefId → Text) (h : Heap Part) where
       ap (λ x. (x ++ after_each (kid_texts name h (tys_kids rest))) ++ codes ")") (b ∙ ap (λ x. x ++ text) a ∙ append_assoc out (codes "(") text)
       ∙ in_brackets-after_each out text (kid_texts name h (tys_kids rest))
       ∙ ap (λ ts. out ++ list_text name h ts) (sym (split_first tys d full))
+
+-- a list that is none of types has no kids to be spelled
+module _ (name : SolverDefId → Text) (t : Tables) (sound : IsSound (heap_of t)) where
+  listed : (p : Part) → ((h : Ty) → p ≡ part.Ty h → ⊥) → ((h : Const) → p ≡ part.Const h → ⊥) → ((h : Region) → p ≡ part.Region h → ⊥) → part_sort p ≡ OfList
+  listed (part.Ty h) no_ty no_const no_region = absurd (no_ty h refl)
+  listed (part.Const h) no_ty no_const no_region = absurd (no_const h refl)
+  listed (part.Region h) no_ty no_const no_region = absurd (no_region h refl)
+  listed _ no_ty no_const no_region = refl
+
+  pub bare_list : (p : Part) → IsLive (heap_of t) p → ((h : Ty) → p ≡ part.Ty h → ⊥) → ((h : Const) → p ≡ part.Const h → ⊥) → ((h : Region) → p ≡ part.Region h → ⊥) → ((h : Tys) → p ≡ part.Tys h → ⊥)
+      → codes "()" ≡ spell name (tree_of (heap_of t) p)
+  bare_list p live no_ty no_const no_region no_tys =
+      let x = node_of (heap_of t) p live in
+      let tree = tree_of-node (heap_of t) sound p x.0 x.1 ∙ ap (λ ks. plant x.0.shape (forest (tree_of (heap_of t)) ks)) (no_kids t p x.0 x.1 no_ty no_tys) in
+      let sort = sym (ap sort_of tree) ∙ live_sort t sound p live ∙ listed p no_ty no_const no_region in
+      let F : Bool → Text = λ b. elim b [ true ↦ in_brackets [] | false ↦ word_text (row x.0.shape.label.word).text (row x.0.shape.label.word).parts (map (field_text name) x.0.shape.label.fields) (bind_texts name x.0.shape.bind) [] ] in
+      sym (ap F (ap (λ s. same_sort s OfList) sort)) ∙ sym (ap (spell name) tree)

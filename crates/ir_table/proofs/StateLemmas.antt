@@ -4,7 +4,7 @@ use Rattle.ir_laws.specs.Heap.{Shape, Sketch, Each, IsLive, IsSound, Adds, Holds
 use Rattle.ir_core.specs.declared.handles.Part.{Part}
 use Rattle.ir_laws.proofs.HeapLemmas.{held_node, interns_held, interns_new}
 use Rattle.ir_core.specs.declared.errors.TermError.TheVariants as error
-use Rattle.ir_table.specs.State.{State, IsNew, NewAnswers}
+use Rattle.ir_table.specs.State.{State, IsNew, NewAnswers, capacity, highest, width}
 
 module _ {T : Type 0} (name : T → Part) (s : State) (sound : IsSound s.heap) (shape : Shape) (kids : List Part) (live : Each (IsLive s.heap) kids) where
   pub is_new : ((q : Part) (t : Sketch Part) → s.heap q ≡ Some t → t.shape ≡ shape → t.kids ≡ kids → ⊥) → IsNew s shape kids
@@ -12,7 +12,7 @@ module _ {T : Type 0} (name : T → Part) (s : State) (sound : IsSound s.heap) (
       let x = held_node s.heap sound shape kids live h.0 h.1 h.2 in
       fresh h.0 x.0 x.1 x.2 x.3
 
-  pub answers_held : (t : T) (k : Sketch Part) → s.heap (name t) ≡ Some k → k.shape ≡ shape → k.kids ≡ kids → height_above s.heap kids ≤ s.high → NewAnswers name s s shape kids (Ok t)
+  pub answers_held : (t : T) (k : Sketch Part) → s.heap (name t) ≡ Some k → k.shape ≡ shape → k.kids ≡ kids → height_above s.heap kids ≤ highest s → NewAnswers name s s shape kids (Ok t)
   answers_held t k e a b low =
       let i = interns_held s.heap sound shape kids live (name t) k e a b in
       let held : Holds s.heap shape kids = (name t, i.live, i.tree) in
@@ -26,10 +26,10 @@ module _ {T : Type 0} (name : T → Part) (s : State) (sound : IsSound s.heap) (
         too_many = λ e. absurd (cc e);
         memory = λ e _. absurd (cc e);
         causes = tt;
-        limits = (refl, refl);
+        limits = refl;
       }
 
-  pub answers_too_deep : s.high < height_above s.heap kids → NewAnswers name s s shape kids (Err error.TooDeep)
+  pub answers_too_deep : highest s < height_above s.heap kids → NewAnswers name s s shape kids (Err error.TooDeep)
   answers_too_deep deep = record {
     ok = tt;
     count = tt;
@@ -40,10 +40,10 @@ module _ {T : Type 0} (name : T → Part) (s : State) (sound : IsSound s.heap) (
     too_many = λ e. absurd (cc e);
     memory = λ e _. absurd (cc e);
     causes = tt;
-    limits = (refl, refl);
+    limits = refl;
   }
 
-  pub answers_too_many : IsNew s shape kids → height_above s.heap kids ≤ s.high → s.nodes ≤ s.count → NewAnswers name s s shape kids (Err error.TooMany)
+  pub answers_too_many : IsNew s shape kids → height_above s.heap kids ≤ highest s → capacity s ≤ s.count → NewAnswers name s s shape kids (Err error.TooMany)
   answers_too_many new low full = record {
     ok = tt;
     count = tt;
@@ -54,10 +54,10 @@ module _ {T : Type 0} (name : T → Part) (s : State) (sound : IsSound s.heap) (
     too_many = λ e. (new, low, full);
     memory = λ e _. absurd (cc e);
     causes = tt;
-    limits = (refl, refl);
+    limits = refl;
   }
 
-  pub answers_memory : (s' : State) → s' ≡ s → (length kids ≤ 8 → IsNew s shape kids) → NewAnswers name s s' shape kids (Err error.Memory)
+  pub answers_memory : (s' : State) → s' ≡ s → (width shape kids ≤ 8 → IsNew s shape kids) → NewAnswers name s s' shape kids (Err error.Memory)
   answers_memory s' same new = record {
     ok = tt;
     count = tt;
@@ -68,13 +68,13 @@ module _ {T : Type 0} (name : T → Part) (s : State) (sound : IsSound s.heap) (
     too_many = λ e. absurd (cc e);
     memory = λ e few. new few;
     causes = tt;
-    limits = (ap (λ (x : State). x.nodes) same, ap (λ (x : State). x.high) same);
+    limits = ap (λ (x : State). x.limits) same;
   }
 
   pub answers_new : (s' : State) (t : T) (k : Sketch Part) → Adds s.heap s'.heap (name t) k → IsSound s'.heap → k.shape ≡ shape → k.kids ≡ kids
-      → s'.count ≡ s.count + 1 → s'.nodes ≡ s.nodes → s'.high ≡ s.high → s.count < s.nodes → height_above s.heap kids ≤ s.high → IsNew s shape kids
+      → s'.count ≡ s.count + 1 → s'.limits ≡ s.limits → s.count < capacity s → height_above s.heap kids ≤ highest s → IsNew s shape kids
       → NewAnswers name s s' shape kids (Ok t)
-  answers_new s' t k adds after a b more nodes high room low new = record {
+  answers_new s' t k adds after a b more limits room low new = record {
     ok = interns_new s.heap sound shape kids live s'.heap (name t) k adds after a b;
     count = more ∙ sym (ap (λ o. s.count + (if is_some o then 0 else 1)) adds.before);
     err = tt;
@@ -84,5 +84,5 @@ module _ {T : Type 0} (name : T → Part) (s : State) (sound : IsSound s.heap) (
     too_many = λ e. absurd (cc e);
     memory = λ e _. absurd (cc e);
     causes = tt;
-    limits = (nodes, high);
+    limits = limits;
   }

@@ -3,7 +3,7 @@ use Rattle.std.specs.Prelude.{◌≡◌, Bool, true, false, ◌&&◌, ◌||◌, 
 use Rattle.ir_core.specs.declared.handles.Part.{Part}
 use Rattle.ir_core.specs.declared.handles.Part.TheVariants as part
 use Rattle.ir_laws.specs.declared.words.Word.{Word}
-use Rattle.ir_laws.specs.declared.words.Word.TheVariants.{TypeList, ArgumentList}
+use Rattle.ir_laws.specs.declared.words.Word.TheVariants.{TypeList, ArgumentList, PatternList, ExistentialList, ClauseList, VariableList, VarianceList, AssumptionList}
 use Rattle.ir_laws.specs.declared.labels.Sort.{Sort}
 use Rattle.ir_laws.specs.declared.labels.Sort.TheVariants.{OfType, OfRegion, OfConstant, OfList}
 use Rattle.ir_laws.specs.declared.labels.KidForm.{KidForm}
@@ -17,16 +17,24 @@ use Rattle.ir_laws.specs.Formed.{kid_forms, fields_fit}
 use Rattle.ir_laws.specs.Heap.{Shape}
 use Rattle.ir_table.specs.declared.join.AnyKind.{AnyKind}
 use Rattle.ir_table.specs.declared.join.AnyKind.TheVariants as any
-use Rattle.ir_table.specs.Kinds.{Fields, ty_shape, ty_kids, region_shape}
+use Rattle.ir_table.specs.Kinds.{Fields, ty_shape, ty_kids, const_shape, region_shape}
 
 abbrev pub part_sort : Part → Sort
 part_sort (part.Ty t) = OfType
+part_sort (part.Const c) = OfConstant
 part_sort (part.Region r) = OfRegion
-part_sort (part.Tys ts) = OfList
+part_sort p = OfList
 
 -- the part is a list of the word
 abbrev pub is_list_of : Word → Part → Bool
-is_list_of list (part.Tys ts) = same_word TypeList list
+is_list_of list (part.Tys h) = same_word TypeList list
+is_list_of list (part.GenericArgs h) = same_word ArgumentList list
+is_list_of list (part.PatList h) = same_word PatternList list
+is_list_of list (part.BoundExistentialPredicates h) = same_word ExistentialList list
+is_list_of list (part.Clauses h) = same_word ClauseList list
+is_list_of list (part.RegionAssumptions h) = same_word AssumptionList list
+is_list_of list (part.BoundVarKinds h) = same_word VariableList list
+is_list_of list (part.VariancesOf h) = same_word VarianceList list
 is_list_of list p = false
 
 -- a part is what its kid form wants
@@ -50,8 +58,10 @@ pub record FitsRow (w : Word) (fs : Fields) (ps : List Part) : Type 0 where
 -- what a kind is of its sort's kinds
 abbrev pub kind_shape : AnyKind → Shape
 kind_shape (any.Ty k) = ty_shape k
+kind_shape (any.Const k) = const_shape k
 kind_shape (any.Region k) = region_shape k
 
 abbrev pub kind_kids : AnyKind → List Part
 kind_kids (any.Ty k) = ty_kids k
+kind_kids (any.Const k) = []
 kind_kids (any.Region k) = []

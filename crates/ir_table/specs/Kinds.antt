@@ -1,5 +1,5 @@
 -- What each kind of node is: its word, its fields and its kids; and back.
-use Rattle.std.specs.Prelude.{List, [], ◌∷◌, None, map, slice_get}
+use Rattle.std.specs.Prelude.{ℕ, List, [], ◌∷◌, Option, Some, None, map, slice_get, nat_eq, if◌then◌else◌}
 use Rattle.std.specs.Option.{option_map}
 use Rattle.ir_core.specs.declared.ids.SolverDefId.{SolverDefId}
 use Rattle.ir_core.specs.declared.handles.Ty.{Ty}
@@ -7,6 +7,13 @@ use Rattle.ir_core.specs.declared.kinds.TyKind.{TyKind}
 use Rattle.ir_core.specs.declared.kinds.TyKind.TheVariants as kind
 use Rattle.ir_core.specs.declared.kinds.RegionKind.{RegionKind}
 use Rattle.ir_core.specs.declared.kinds.RegionKind.TheVariants as region
+use Rattle.ir_core.specs.declared.kinds.ConstKind.{ConstKind}
+use Rattle.ir_core.specs.declared.kinds.ConstKind.TheVariants as konst
+use Rattle.ir_core.specs.declared.kinds.BoundRegionKind.TheVariants as bound_region
+use Rattle.ir_core.specs.declared.kinds.BoundVarKind.{BoundVarKind}
+use Rattle.ir_core.specs.declared.kinds.BoundVarKind.TheVariants as variable
+use Rattle.ir_core.specs.declared.kinds.Variance.{Variance}
+use Rattle.ir_core.specs.declared.kinds.Variance.TheVariants as variance
 use Rattle.ir_core.specs.declared.kinds.IntTy.{IntTy}
 use Rattle.ir_core.specs.declared.kinds.IntTy.TheVariants as int
 use Rattle.ir_core.specs.declared.kinds.UintTy.{UintTy}
@@ -16,12 +23,16 @@ use Rattle.ir_core.specs.declared.kinds.FloatTy.TheVariants as float
 use Rattle.ir_core.specs.declared.kinds.Mutability.{Mutability}
 use Rattle.ir_core.specs.declared.kinds.Mutability.TheVariants as mutability
 use Rattle.ir_laws.specs.declared.words.Word.{Word}
-use Rattle.ir_laws.specs.declared.words.Word.TheVariants.{BoolType, CharType, StrType, NeverType, I8Type, I16Type, I32Type, I64Type, I128Type, ISizeType, U8Type, U16Type, U32Type, U64Type, U128Type, USizeType, F16Type, F32Type, F64Type, F128Type, ErrorType, PointerType, ReferenceType, TupleType, StaticRegion, ErasedRegion, ErrorRegion, TypeList}
+use Rattle.ir_laws.specs.declared.words.Word.TheVariants.{BoolType, CharType, StrType, NeverType, I8Type, I16Type, I32Type, I64Type, I128Type, ISizeType, U8Type, U16Type, U32Type, U64Type, U128Type, USizeType, F16Type, F32Type, F64Type, F128Type, ErrorType, PointerType, ReferenceType, TupleType, StaticRegion, ErasedRegion, ErrorRegion, ErrorConstant, TypeList, ArgumentList, PatternList, ExistentialList, ClauseList, VariableList, VarianceList, AssumptionList}
 use Rattle.ir_laws.specs.declared.labels.Keyword.{Keyword}
-use Rattle.ir_laws.specs.declared.labels.Keyword.TheVariants.{Not, Mut}
+use Rattle.ir_laws.specs.declared.labels.Keyword.TheVariants.{Not, Mut, Covariant, Invariant, Contravariant, Bivariant}
+use Rattle.ir_laws.specs.declared.labels.Sort.TheVariants.{OfRegion}
 use Rattle.ir_laws.specs.Tree as tree
 use Rattle.ir_core.specs.declared.handles.Part.{Part}
 use Rattle.ir_core.specs.declared.handles.Part.TheVariants as part
+use Rattle.ir_table.specs.declared.store.EmptyList.{EmptyList}
+use Rattle.ir_table.specs.declared.store.EmptyList.TheVariants as empty
+use Rattle.ir_table.specs.declared.store.Tables.{Tables}
 use Rattle.ir_table.specs.declared.parts.Cached.{Cached}
 use Rattle.ir_table.specs.declared.parts.Field.{Field}
 use Rattle.ir_table.specs.declared.parts.Field.TheVariants as field
@@ -174,13 +185,69 @@ region_of StaticRegion = region.ReStatic
 region_of ErasedRegion = region.ReErased
 region_of _ = region.ReError (record {})
 
+-- ---- constants
+
+abbrev pub const_word : ConstKind → Word
+const_word (konst.Error e) = ErrorConstant
+
+abbrev pub const_shape : ConstKind → Shape
+const_shape k = shape (const_word k) []
+
 -- ---- lists
 
-abbrev pub tys_shape : Shape
-tys_shape = shape TypeList []
+-- a list of types has them as kids
+abbrev pub tys_shape : List Ty → Shape
+tys_shape ts = shape TypeList []
 
 abbrev pub tys_kids : List Ty → List Part
 tys_kids ts = map part.Ty ts
+
+-- lists of variables and of variances have them as fields
+abbrev pub variable_seen : BoundVarKind → tree.Kind SolverDefId
+variable_seen (variable.Region bound_region.ClosureEnv) = record { sort = OfRegion; name = tree.Environment }
+
+abbrev pub variable_field : BoundVarKind → tree.Field SolverDefId
+variable_field v = tree.OfKind (variable_seen v)
+
+abbrev pub variables_shape : List BoundVarKind → Shape
+variables_shape vs = shape VariableList (map variable_field vs)
+
+abbrev pub variance_word : Variance → Keyword
+variance_word variance.Covariant = Covariant
+variance_word variance.Invariant = Invariant
+variance_word variance.Contravariant = Contravariant
+variance_word variance.Bivariant = Bivariant
+
+abbrev pub variance_field : Variance → tree.Field SolverDefId
+variance_field v = tree.Chosen (variance_word v)
+
+abbrev pub variances_shape : List Variance → Shape
+variances_shape vs = shape VarianceList (map variance_field vs)
+
+-- the other lists have no members yet
+abbrev pub empty_word : EmptyList → Word
+empty_word empty.GenericArgs = ArgumentList
+empty_word empty.PatList = PatternList
+empty_word empty.BoundExistentialPredicates = ExistentialList
+empty_word empty.Clauses = ClauseList
+empty_word empty.RegionAssumptions = AssumptionList
+
+abbrev pub empty_shape : EmptyList → Shape
+empty_shape k = shape (empty_word k) []
+
+abbrev pub empty_number : EmptyList → ℕ
+empty_number empty.GenericArgs = 0
+empty_number empty.PatList = 1
+empty_number empty.BoundExistentialPredicates = 2
+empty_number empty.Clauses = 3
+empty_number empty.RegionAssumptions = 4
+
+abbrev pub empty_part : EmptyList → ℕ → Part
+empty_part empty.GenericArgs i = part.GenericArgs (record { position = i })
+empty_part empty.PatList i = part.PatList (record { position = i })
+empty_part empty.BoundExistentialPredicates i = part.BoundExistentialPredicates (record { position = i })
+empty_part empty.Clauses i = part.Clauses (record { position = i })
+empty_part empty.RegionAssumptions i = part.RegionAssumptions (record { position = i })
 
 -- ---- the heap
 
@@ -188,17 +255,43 @@ tys_kids ts = map part.Ty ts
 abbrev pub sketch : Shape → List Part → Cached → Sketch Part
 sketch s kids c = record { shape = s; kids = kids; height = c.height; size = c.size }
 
+-- the node of a pair, by its key
+abbrev pub sketch_of : {K : Type 0} → (K → Shape) → (K → List Part) → K × Cached → Sketch Part
+sketch_of shape kids e = sketch (shape e.0) (kids e.0) e.1
+
 abbrev pub ty_sketch : TyKind × Cached → Sketch Part
-ty_sketch e = sketch (ty_shape e.0) (ty_kids e.0) e.1
+ty_sketch = sketch_of ty_shape ty_kids
+
+abbrev pub const_sketch : ConstKind × Cached → Sketch Part
+const_sketch = sketch_of const_shape (λ _. [])
 
 abbrev pub region_sketch : RegionKind × Cached → Sketch Part
-region_sketch e = sketch (region_shape e.0) [] e.1
+region_sketch = sketch_of region_shape (λ _. [])
 
 abbrev pub tys_sketch : List Ty × Cached → Sketch Part
-tys_sketch e = sketch tys_shape (tys_kids e.0) e.1
+tys_sketch = sketch_of tys_shape tys_kids
+
+abbrev pub variables_sketch : List BoundVarKind × Cached → Sketch Part
+variables_sketch = sketch_of variables_shape (λ _. [])
+
+abbrev pub variances_sketch : List Variance × Cached → Sketch Part
+variances_sketch = sketch_of variances_shape (λ _. [])
+
+-- the empty list of a sort, where the pair is of that sort
+abbrev pub empty_at : EmptyList → Option (EmptyList × Cached) → Option (Sketch Part)
+empty_at k None = None
+empty_at k (Some e) = if nat_eq (empty_number e.0) (empty_number k) then Some (sketch_of empty_shape (λ _. []) e) else None
 
 -- the heap that the tables are
-unfoldable pub heap_of : List (TyKind × Cached) → List (RegionKind × Cached) → List (List Ty × Cached) → Heap Part
-heap_of tys regions lists (part.Ty t) = option_map ty_sketch (slice_get tys t.position)
-heap_of tys regions lists (part.Region r) = option_map region_sketch (slice_get regions r.position)
-heap_of tys regions lists (part.Tys ts) = option_map tys_sketch (slice_get lists ts.position)
+unfoldable pub heap_of : Tables → Heap Part
+heap_of t (part.Ty h) = option_map ty_sketch (slice_get t.tys h.position)
+heap_of t (part.Const h) = option_map const_sketch (slice_get t.consts h.position)
+heap_of t (part.Region h) = option_map region_sketch (slice_get t.regions h.position)
+heap_of t (part.Tys h) = option_map tys_sketch (slice_get t.type_lists h.position)
+heap_of t (part.BoundVarKinds h) = option_map variables_sketch (slice_get t.variable_lists h.position)
+heap_of t (part.VariancesOf h) = option_map variances_sketch (slice_get t.variance_lists h.position)
+heap_of t (part.GenericArgs h) = empty_at empty.GenericArgs (slice_get t.empty_lists h.position)
+heap_of t (part.PatList h) = empty_at empty.PatList (slice_get t.empty_lists h.position)
+heap_of t (part.BoundExistentialPredicates h) = empty_at empty.BoundExistentialPredicates (slice_get t.empty_lists h.position)
+heap_of t (part.Clauses h) = empty_at empty.Clauses (slice_get t.empty_lists h.position)
+heap_of t (part.RegionAssumptions h) = empty_at empty.RegionAssumptions (slice_get t.empty_lists h.position)

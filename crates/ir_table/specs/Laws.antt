@@ -1,13 +1,16 @@
 -- What callers may rely on at any moment of an interner.
-use Rattle.std.specs.Prelude.{◌≡◌, ◌↔◌}
+use Rattle.std.specs.Prelude.{◌≡◌, ◌↔◌, List, length}
+use Rattle.ir_core.specs.declared.handles.Const.{Const}
 use Rattle.ir_core.specs.declared.handles.Part.{Part}
 use Rattle.ir_core.specs.declared.handles.Part.TheVariants as part
 use Rattle.ir_core.specs.declared.handles.Region.{Region}
 use Rattle.ir_core.specs.declared.handles.Ty.{Ty}
 use Rattle.ir_core.specs.declared.handles.Tys.{Tys}
 use Rattle.ir_laws.specs.Heap.{IsLive, tree_of}
+use Rattle.ir_laws.specs.Held.{HoldsJust}
+use Rattle.ir_laws.specs.Tree.{Term}
 use Rattle.ir_table.specs.declared.Interner.{Interner}
-use Rattle.ir_table.specs.Interner.{heap}
+use Rattle.ir_table.specs.Interner.{heap, state}
 
 -- two live handles of one sort, which names parts, are equal exactly where their trees are
 abbrev pub AreTold : {T : Type 0} → (T → Part) → Type 0
@@ -19,5 +22,16 @@ TypesAreTold = AreTold {T = Ty} part.Ty
 abbrev pub RegionsAreTold : Type 0
 RegionsAreTold = AreTold {T = Region} part.Region
 
+abbrev pub ConstantsAreTold : Type 0
+ConstantsAreTold = AreTold {T = Const} part.Const
+
 abbrev pub TypeListsAreTold : Type 0
 TypeListsAreTold = AreTold {T = Tys} part.Tys
+
+-- the same of parts of any sort
+abbrev pub PartsAreTold : Type 0
+PartsAreTold = AreTold {T = Part} (λ p. p)
+
+-- the number of parts is the length of the set of trees that are held
+abbrev pub PartsAreCounted : Type 0
+PartsAreCounted = (cx : Interner) (ts : List Term) → HoldsJust (heap cx) ts → (state cx).count ≡ length ts

@@ -1,9 +1,11 @@
 pub mod Exact
 pub mod Table
 pub mod Kinds
+pub mod Count
 pub mod Fits
 pub mod Limits
 pub mod Spelled
 pub mod State
+pub mod Start
 pub mod Interner
 pub mod Laws

@@ -20,6 +20,7 @@ use Rattle.ir_table.specs.Kinds.{node_kids, node_shape, tys_kids}
 abbrev pub part_of : AnyTerm → Part
 part_of (any.Ty t) = part.Ty t
 part_of (any.Region r) = part.Region r
+part_of (any.Const c) = part.Const c
 
 -- an id without a name is spelled `?`
 abbrev pub name_text : (SolverDefId → Option Text) → SolverDefId → Text

@@ -1,7 +1,8 @@
 //! Keys that are their contents.
 ghost use Rattle.std.specs.Prelude.{◌≡◌, true};
 
-use ir_core::{Region, RegionKind, Ty, TyKind, Tys};
+use crate::EmptyList;
+use ir_core::{BoundVarKind, ConstKind, Region, RegionKind, Ty, TyKind, Tys, Variance};
 use std::hash::Hash;
 
 /// A key that is its contents: to be equal is to be the same.
@@ -46,6 +47,38 @@ impl Exact for RegionKind {
 }
 
 impl Exact for TyKind {
+    ghost use Rattle.std.proofs.Common.{rules};
+
+    ghost exact = { Prim.search rules };
+
+    ghost copied = { Prim.search rules };
+}
+
+impl Exact for ConstKind {
+    ghost use Rattle.std.proofs.Common.{rules};
+
+    ghost exact = { Prim.search rules };
+
+    ghost copied = { Prim.search rules };
+}
+
+impl Exact for BoundVarKind {
+    ghost use Rattle.std.proofs.Common.{rules};
+
+    ghost exact = { Prim.search rules };
+
+    ghost copied = { Prim.search rules };
+}
+
+impl Exact for Variance {
+    ghost use Rattle.std.proofs.Common.{rules};
+
+    ghost exact = { Prim.search rules };
+
+    ghost copied = { Prim.search rules };
+}
+
+impl Exact for EmptyList {
     ghost use Rattle.std.proofs.Common.{rules};
 
     ghost exact = { Prim.search rules };

@@ -10,13 +10,14 @@ ghost use Rattle.ir_laws.specs.Tree as tree;
 
 use crate::parts::Field;
 use crate::{Handle, Intern, Interner};
-use ir_core::{Mutability, Part, R, Region, RegionKind, Ty, TyKind, Tys, UintTy};
+use ir_core::{Const, ConstKind, Mutability, Part, R, Region, RegionKind, Ty, TyKind, Tys, UintTy};
 use ir_laws::{Keyword, Word};
 
 /// A kind of any sort.
 #[derive(Clone, Copy, PartialEq, Eq, Debug)]
 pub enum AnyKind {
     Ty(TyKind),
+    Const(ConstKind),
     Region(RegionKind),
 }
 
@@ -94,6 +95,7 @@ impl Interner {
     {
         match kind {
             AnyKind::Ty(kind) => Ok(Ty::new(self, kind)?.as_part()),
+            AnyKind::Const(kind) => Ok(Const::new(self, kind)?.as_part()),
             AnyKind::Region(kind) => Ok(Region::new(self, kind)?.as_part()),
         }
     }

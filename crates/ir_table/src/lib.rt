@@ -2,10 +2,11 @@
 #![tactic(auto)]
 
 mod above;
-mod equality;
+mod constants;
 mod exact;
 mod intern;
 mod join;
+mod laws;
 mod list_table;
 mod names;
 mod parts;
@@ -13,43 +14,81 @@ mod regions;
 mod spelling;
 mod split;
 mod start;
+mod store;
 mod table;
 #[cfg(test)]
 mod tests;
 mod type_lists;
 mod types;
+mod variable_lists;
+mod variance_lists;
 
-ghost use Rattle.ir_core.specs.declared.handles.Part.{Part};
-ghost use Rattle.ir_laws.specs.Heap.{IsLive, IsSound, cached_height};
 ghost use Rattle.ir_table.specs.Kinds.{heap_of};
-ghost use Rattle.ir_laws.proofs.HeapLemmas.{sound_prop};
-ghost use Rattle.std.specs.Prelude.{◌+◌, ◌<◌, ◌≤◌, ◌^◌, length};
+ghost use Rattle.ir_table.specs.Start.{are_named};
+ghost use Rattle.std.specs.Prelude.{◌≡◌, true};
 
-pub use equality::equal_handles;
 pub use exact::Exact;
 pub use intern::{Handle, Intern, InternList};
-use ir_core::{Limits, RegionKind, Ty, TyKind};
+use ir_core::{DefaultAny, Limits, Part};
 pub use join::{AnyKind, kind_of};
+pub use laws::{equal_handles, parts_are_counted};
 pub use list_table::{ListKey, ListTable};
 pub use names::{Names, NoNames};
 pub use parts::{Cached, Field, Fields, Kids, Node};
-use smallvec::SmallVec;
 pub use spelling::spell;
-use std::alloc::Global;
+pub use store::EmptyList;
+use store::{Store, Tables};
 pub use table::Table;
 
-/// The tables of all terms: each part is held once, and its handle is its place in the table of its sort.
+/// All terms, and the limits of these: each part is held once, and its handle is its place in the table of its sort.
 #[derive(Drop)]
 pub struct Interner {
-    tys: Table<TyKind, Cached>,
-    regions: Table<RegionKind, Cached>,
-    lists: ListTable<SmallVec<Ty, 8>, Cached>,
-    nodes: u64,
-    high: u32,
-    asked: u64,
-    alloc: Global,
-    pub ghost sound: { IsSound (heap_of tys regions lists) } by { sound_prop (heap_of tys regions lists) },
-    pub ghost few: { length tys + length regions + length lists ≤ nodes },
-    pub ghost small: { nodes < 2 ^ 32 },
-    pub ghost low: { (p : Part) → IsLive (heap_of tys regions lists) p → cached_height (heap_of tys regions lists) p ≤ high },
+    store: Store,
+    defaults: DefaultAny,
+    pub ghost start: { are_named (heap_of store.tables) defaults ≡ true },
+}
+
+impl Interner {
+    ghost use Rattle.ir_laws.specs.Counts.{size};
+    ghost use Rattle.ir_laws.specs.Heap.{Each, IsLive, size_cap, tree_of};
+    ghost use Rattle.ir_table.specs.Interner.{asked, heap, state};
+    ghost use Rattle.ir_table.specs.Limits.{limits_seen};
+    ghost use Rattle.ir_table.specs.Start.{Names, named_start};
+    ghost use Rattle.std.specs.Prelude.{min};
+
+    /// The limits that it was made with, as they were given.
+    pub fn limits(&self) -> Limits
+        ensures { limits_seen result ≡ (state self.now).limits }
+    {
+        self.store.limits
+    }
+
+    /// The handles of the parts that are there from the start.
+    pub fn default_types(&self) -> &DefaultAny
+        ensures { Each (Names (heap self.now)) (named_start result.now) }
+    {
+        &self.defaults
+    }
+
+    /// How many parts are held.
+    pub fn len(&self) -> u64
+        ensures { result ≡ (state self.now).count }
+    {
+        self.store.len()
+    }
+
+    /// How many making calls were asked. It ends at its type's last value.
+    pub fn asked(&self) -> u64
+        ensures { result ≡ asked self.now }
+    {
+        self.store.asked
+    }
+
+    /// The size of the part's tree, which ends at 2^48 + 1.
+    pub fn size_of(&self, part: Part) -> u64
+        requires { IsLive (heap self.now) part }
+        ensures { result ≡ min size_cap (size (tree_of (heap self.now) part)) }
+    {
+        self.store.cached(part).size
+    }
 }

@@ -1,5 +1,5 @@
 //! Nodes one layer deep, and what is kept beside them.
-use ir_core::Part;
+use ir_core::{Part, TypeFlags};
 use ir_laws::{Keyword, Word};
 
 /// What the tables keep beside each node.
@@ -9,6 +9,8 @@ pub struct Cached {
     pub height: u32,
     /// The size of the tree, which ends at 2^48 + 1.
     pub size: u64,
+    /// What the tree holds.
+    pub flags: TypeFlags,
 }
 
 /// What a node's label keeps beside its word.

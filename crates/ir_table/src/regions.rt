@@ -1,11 +1,36 @@
 //! Regions.
-ghost use Rattle.ir_table.specs.Kinds.{region_shape};
 ghost use Rattle.ir_core.specs.declared.handles.Part.TheVariants as part;
+ghost use Rattle.ir_laws.specs.Heap.{Each, IsLive};
+ghost use Rattle.ir_table.specs.Interner.{rises, stored};
+ghost use Rattle.ir_table.specs.Kinds.{heap_of, region_shape};
+ghost use Rattle.ir_table.specs.State.{NewAnswers};
 ghost use Rattle.std.specs.Prelude.{◌≡◌, []};
 
 use crate::split::region_node;
+use crate::store::Store;
 use crate::{Handle, Intern, Interner};
-use ir_core::{Part, R, Region, RegionKind, TermError};
+use ir_core::{Part, R, Region, RegionKind};
+
+impl Store {
+    // The region of the kind.
+    pub(crate) fn region(&mut self, kind: RegionKind) -> R<Region>
+        ensures answers { NewAnswers part.Region (stored self.old) (stored self.new) (region_shape kind) [] result }
+        ensures asked { self.new.asked ≡ rises self.old.asked }
+    {
+        self.asked = self.asked.saturating_add(1);
+        if let Some(index) = self.tables.regions.find(&kind) {
+            return Ok(Region {
+                position: index as u32,
+            });
+        }
+        let cached = self.admit(self.above_node(&region_node(kind)))?;
+        let index = self.tables.regions.len();
+        self.tables.regions.push(kind, cached)?;
+        Ok(Region {
+            position: index as u32,
+        })
+    }
+}
 
 impl Handle for Region {
     ghost part = { part.Region };
@@ -25,33 +50,14 @@ impl Intern for Region {
     ghost kids = { λ _. [] };
 
     fn new(cx: &mut Interner, kind: RegionKind) -> R<Region> {
-        cx.asked = cx.asked.saturating_add(1);
-        if let Some(index) = cx.regions.find(&kind) {
-            return Ok(Region {
-                position: index as u32,
-            });
-        }
-        let above = cx.above_node(&region_node(kind));
-        if above.height > cx.high as u64 {
-            return Err(TermError::TooDeep);
-        }
-        if cx.len() >= cx.nodes {
-            return Err(TermError::TooMany);
-        }
-        let index = cx.regions.len();
-        match cx.regions.push(kind, above.cached()) {
-            Ok(()) => Ok(Region {
-                position: index as u32,
-            }),
-            Err(_) => Err(TermError::Memory),
-        }
+        cx.store.region(kind)
     }
 
     fn kind(self, cx: &Interner) -> RegionKind {
-        cx.regions.get(self.position as usize).0
+        cx.store.tables.regions.get(self.position as usize).0
     }
 
     fn holds(self, cx: &Interner) -> bool {
-        (self.position as usize) < cx.regions.len()
+        (self.position as usize) < cx.store.tables.regions.len()
     }
 }

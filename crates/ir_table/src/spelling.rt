@@ -16,7 +16,7 @@ ghost use Rattle.ir_table.specs.Spelled.{
 ghost use Rattle.std.specs.Prelude.{◌≡◌, ◌++◌, ◌∷◌, codes, Err, OnOk, OnErr};
 
 use crate::parts::{Field, Node};
-use crate::split::{region_node, ty_node};
+use crate::split::{const_node, region_node, ty_node};
 use crate::{Intern, InternList, Interner, Names};
 use ir_core::{AnyTerm, Part, R, Text, Ty};
 use ir_laws::Part as Place;
@@ -41,6 +41,7 @@ pub fn spell<N: Names>(
     let part = match term {
         AnyTerm::Ty(ty) => Part::Ty(ty),
         AnyTerm::Region(region) => Part::Region(region),
+        AnyTerm::Const(konst) => Part::Const(konst),
     };
     let length = out.as_bytes().len();
     let answer = spell_part(cx, names, part, out);
@@ -60,7 +61,10 @@ fn spell_part<N: Names>(cx: &Interner, names: &N, part: Part, out: &mut Text) ->
     match part {
         Part::Ty(ty) => spell_node(cx, names, &ty_node(ty.kind(cx)), out),
         Part::Region(region) => spell_node(cx, names, &region_node(region.kind(cx)), out),
+        Part::Const(konst) => spell_node(cx, names, &const_node(konst.kind(cx)), out),
         Part::Tys(tys) => spell_tys(cx, names, tys.as_slice(cx), out),
+        // The other lists have no kids.
+        _ => out.append(b"()"),
     }
 }
 

@@ -7,6 +7,7 @@ ghost use Rattle.ir_table.specs.Kinds.{
   ty_shape,
   ty_kids,
   region_shape,
+  const_shape,
   shape,
   node_shape,
   node_kids,
@@ -14,7 +15,7 @@ ghost use Rattle.ir_table.specs.Kinds.{
 ghost use Rattle.std.specs.Prelude.{◌≡◌, []};
 
 use crate::parts::{Field, Fields, Kids, Node};
-use ir_core::{FloatTy, IntTy, Mutability, Part, RegionKind, TyKind, UintTy};
+use ir_core::{ConstKind, FloatTy, IntTy, Mutability, Part, RegionKind, TyKind, UintTy};
 use ir_laws::{Keyword, Word};
 
 fn int(int: IntTy) -> Word
@@ -118,5 +119,15 @@ pub fn region_node(kind: RegionKind) -> Node
         RegionKind::ReStatic => Node::leaf(Word::StaticRegion),
         RegionKind::ReErased => Node::leaf(Word::ErasedRegion),
         RegionKind::ReError(_) => Node::leaf(Word::ErrorRegion),
+    }
+}
+
+/// The node of a constant.
+pub fn const_node(kind: ConstKind) -> Node
+    ensures shape { node_shape result ≡ const_shape kind }
+    ensures kids { node_kids result ≡ [] }
+{
+    match kind {
+        ConstKind::Error(_) => Node::leaf(Word::ErrorConstant),
     }
 }

@@ -1,6 +1,9 @@
 //! Each table at types that it is used with, and an interner over them.
 use crate::{Exact, Intern, InternList, Interner, ListKey, ListTable, Table};
-use ir_core::{IntTy, Limits, TermError, Ty, TyKind, Tys};
+use ir_core::{
+    BoundRegionKind, BoundVarKind, BoundVarKinds, Const, ConstKind, ErrorGuaranteed, IntTy, Limits,
+    Mutability, R, TermError, Ty, TyKind, TypeFlags, Tys, Variance, VariancesOf,
+};
 use smallvec::SmallVec;
 use std::alloc::{AllocError, Global};
 use std::test::Fail;
@@ -73,30 +76,105 @@ fn a_key_of_eight_items_takes_no_memory(rt: HostRuntime) {
     assert_eq!(rt; ListKey::as_slice(&key), &nine[..8]);
 }
 
-#[test]
-fn a_held_list_is_asked_and_not_put_again(rt: HostRuntime) -> Result<(), Fail> {
-    let limits = Limits {
+/// The limits that leave room for so many parts.
+fn room_for(nodes: u64) -> Limits {
+    Limits {
         index: 65_535,
         number: 65_535,
         height: 512,
-        nodes: 6,
+        nodes,
         size: 1_000_000,
-    };
-    let mut cx = Interner::new(rt.alloc(), limits)?;
+    }
+}
+
+#[test]
+fn the_start_has_39_parts(rt: HostRuntime) -> Result<(), Fail> {
+    let refused = Interner::new(rt.alloc(), room_for(38)).err();
+    assert_eq!(rt; refused, Some(TermError::TooMany));
+    let cx = Interner::new(rt.alloc(), room_for(39))?;
+    assert_eq!(rt; cx.len(), 39);
     assert_eq!(rt; cx.asked(), 0);
-    assert_eq!(rt; cx.len(), 4);
+    assert_eq!(rt; cx.limits(), room_for(39));
+    Ok(())
+}
+
+/// Whether a constant that is there from the start has the handle that the start names.
+fn error_is_held(alloc: Global) -> R<bool> {
+    let mut cx = Interner::new(alloc, room_for(39))?;
+    let error = Const::new(&mut cx, ConstKind::Error(ErrorGuaranteed))?;
+    Ok(error == cx.default_types().consts.error)
+}
+
+/// The same of a list of variances.
+fn variances_are_held(alloc: Global) -> R<bool> {
+    let mut cx = Interner::new(alloc, room_for(39))?;
+    let variances = VariancesOf::new_from_slice(&mut cx, &[Variance::Covariant])?;
+    Ok(variances == cx.default_types().one_covariant)
+}
+
+/// The same of a list of variables.
+fn variables_are_held(alloc: Global) -> R<bool> {
+    let mut cx = Interner::new(alloc, room_for(39))?;
+    let environment = [BoundVarKind::Region(BoundRegionKind::ClosureEnv)];
+    let variables = BoundVarKinds::new_from_slice(&mut cx, &environment)?;
+    Ok(variables == cx.default_types().coroutine_captures_by_ref_bound_var_kinds)
+}
+
+#[test]
+fn the_start_names_its_parts(rt: HostRuntime) -> Result<(), Fail> {
+    assert!(rt; error_is_held(rt.alloc())?);
+    assert!(rt; variances_are_held(rt.alloc())?);
+    assert!(rt; variables_are_held(rt.alloc())?);
+    Ok(())
+}
+
+/// How many items the empty lists have together, where they are empty.
+fn empty_lists_have(alloc: Global) -> R<usize> {
+    let cx = Interner::new(alloc, room_for(39))?;
+    let types = Tys::empty(&cx);
+    if !types.is_empty(&cx) {
+        return Ok(1);
+    }
+    Ok(types.len(&cx) + VariancesOf::empty(&cx).len(&cx) + BoundVarKinds::empty(&cx).len(&cx))
+}
+
+/// What a pointer to an error holds.
+fn flags_of_a_pointer(alloc: Global) -> R<TypeFlags> {
+    let mut cx = Interner::new(alloc, room_for(40))?;
+    let error = Ty::new(&mut cx, TyKind::Error(ErrorGuaranteed))?;
+    let pointer = Ty::new(&mut cx, TyKind::RawPtr(error, Mutability::Not))?;
+    Ok(pointer.inner(&cx).flags)
+}
+
+#[test]
+fn empty_lists_are_empty_and_flags_are_kept(rt: HostRuntime) -> Result<(), Fail> {
+    assert_eq!(rt; empty_lists_have(rt.alloc())?, 0);
+    assert_eq!(rt; flags_of_a_pointer(rt.alloc())?, TypeFlags::HAS_ERROR);
+    Ok(())
+}
+
+/// How many calls are asked and how many parts are held after a list was made twice.
+fn after_a_list_made_twice(alloc: Global) -> R<(u64, u64)> {
+    let mut cx = Interner::new(alloc, room_for(40))?;
     let bool = Ty::new(&mut cx, TyKind::Bool)?;
     let first = Tys::new_from_slice(&mut cx, &[bool, bool])?;
     let second = Tys::new_from_slice(&mut cx, &[bool, bool])?;
-    assert_eq!(rt; first, second);
-    assert_eq!(rt; cx.asked(), 3);
-    assert_eq!(rt; cx.len(), 5);
-    assert!(rt; first.holds(&cx));
-    assert!(rt; !Tys { position: 1 }.holds(&cx));
-    assert_eq!(rt; first.len(&cx), 2);
-    let pair = Ty::new(&mut cx, TyKind::Tuple(first))?;
-    assert_eq!(rt; pair.kind(&cx), TyKind::Tuple(first));
-    assert_eq!(rt; Ty::new(&mut cx, TyKind::Never), Err(TermError::TooMany));
-    assert_eq!(rt; cx.len(), 6);
+    if first != second {
+        return Ok((0, 0));
+    }
+    Ok((cx.asked(), cx.len()))
+}
+
+/// What a making call answers where the tables are full.
+fn one_too_many(alloc: Global) -> R<Ty> {
+    let mut cx = Interner::new(alloc, room_for(39))?;
+    let bool = Ty::new(&mut cx, TyKind::Bool)?;
+    Ty::new(&mut cx, TyKind::RawPtr(bool, Mutability::Not))
+}
+
+#[test]
+fn a_held_list_is_asked_and_not_put_again(rt: HostRuntime) -> Result<(), Fail> {
+    assert_eq!(rt; after_a_list_made_twice(rt.alloc())?, (3, 40));
+    assert_eq!(rt; one_too_many(rt.alloc()), Err(TermError::TooMany));
     Ok(())
 }

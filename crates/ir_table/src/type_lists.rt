@@ -1,10 +1,38 @@
 //! Lists of types.
-ghost use Rattle.ir_table.specs.Kinds.{tys_shape};
 ghost use Rattle.ir_core.specs.declared.handles.Part.TheVariants as part;
+ghost use Rattle.ir_laws.specs.Heap.{Each, IsLive};
+ghost use Rattle.ir_table.specs.Interner.{rises, stored};
+ghost use Rattle.ir_table.specs.Kinds.{heap_of, tys_shape, tys_kids};
+ghost use Rattle.ir_table.specs.State.{NewAnswers};
+ghost use Rattle.std.specs.Prelude.{◌≡◌, []};
 
+use crate::store::Store;
 use crate::{Handle, InternList, Interner, ListKey};
-use ir_core::{Part, R, TermError, Ty, Tys};
+use ir_core::{Part, R, Ty, Tys};
 use smallvec::SmallVec;
+
+impl Store {
+    // The list of the items.
+    pub(crate) fn tys(&mut self, items: &[Ty]) -> R<Tys>
+        requires { Each (IsLive (heap_of self.old.tables)) (tys_kids items.now) }
+        ensures answers { NewAnswers part.Tys (stored self.old) (stored self.new) (tys_shape items.now) (tys_kids items.now) result }
+        ensures asked { self.new.asked ≡ rises self.old.asked }
+    {
+        self.asked = self.asked.saturating_add(1);
+        let key = <SmallVec<Ty, 8> as ListKey>::from_slice(self.alloc, items)?;
+        if let Some(index) = self.tables.type_lists.find(&key) {
+            return Ok(Tys {
+                position: index as u32,
+            });
+        }
+        let cached = self.admit(self.above_tys(items))?;
+        let index = self.tables.type_lists.len();
+        self.tables.type_lists.push(key, cached)?;
+        Ok(Tys {
+            position: index as u32,
+        })
+    }
+}
 
 impl Handle for Tys {
     ghost part = { part.Tys };
@@ -21,41 +49,29 @@ impl InternList for Tys {
 
     ghost list_shape = { tys_shape };
 
+    ghost list_kids = { tys_kids };
+
+    fn empty(cx: &Interner) -> Tys {
+        cx.defaults.empty.tys
+    }
+
     fn new_from_slice(cx: &mut Interner, items: &[Ty]) -> R<Tys> {
-        cx.asked = cx.asked.saturating_add(1);
-        let Ok(key) = <SmallVec<Ty, 8> as ListKey>::from_slice(cx.alloc, items) else {
-            return Err(TermError::Memory);
-        };
-        if let Some(index) = cx.lists.find(&key) {
-            return Ok(Tys {
-                position: index as u32,
-            });
-        }
-        let above = cx.above_tys(items);
-        if above.height > cx.high as u64 {
-            return Err(TermError::TooDeep);
-        }
-        if cx.len() >= cx.nodes {
-            return Err(TermError::TooMany);
-        }
-        let index = cx.lists.len();
-        match cx.lists.push(key, above.cached()) {
-            Ok(()) => Ok(Tys {
-                position: index as u32,
-            }),
-            Err(_) => Err(TermError::Memory),
-        }
+        cx.store.tys(items)
     }
 
     fn as_slice<'a>(self, cx: &'a Interner) -> &'a [Ty] {
-        cx.lists.get(self.position as usize)
+        cx.store.tables.type_lists.get(self.position as usize)
     }
 
     fn len(self, cx: &Interner) -> usize {
         self.as_slice(cx).len()
     }
 
+    fn is_empty(self, cx: &Interner) -> bool {
+        self.as_slice(cx).is_empty()
+    }
+
     fn holds(self, cx: &Interner) -> bool {
-        (self.position as usize) < cx.lists.len()
+        (self.position as usize) < cx.store.tables.type_lists.len()
     }
 }

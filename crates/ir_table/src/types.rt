@@ -1,11 +1,37 @@
 //! Types.
-ghost use Rattle.ir_table.specs.Kinds.{ty_shape, ty_kids};
 ghost use Rattle.ir_core.specs.declared.handles.Part.TheVariants as part;
+ghost use Rattle.ir_laws.specs.Heap.{Each, IsLive};
+ghost use Rattle.ir_table.specs.Interner.{rises, stored};
+ghost use Rattle.ir_table.specs.Kinds.{heap_of, ty_shape, ty_kids};
+ghost use Rattle.ir_table.specs.State.{NewAnswers};
 ghost use Rattle.std.specs.Prelude.{◌≡◌, []};
 
 use crate::split::ty_node;
+use crate::store::Store;
 use crate::{Handle, Intern, Interner};
-use ir_core::{Part, R, TermError, Ty, TyKind};
+use ir_core::{Part, R, Ty, TyKind};
+
+impl Store {
+    // The type of the kind.
+    pub(crate) fn ty(&mut self, kind: TyKind) -> R<Ty>
+        requires { Each (IsLive (heap_of self.old.tables)) (ty_kids kind) }
+        ensures answers { NewAnswers part.Ty (stored self.old) (stored self.new) (ty_shape kind) (ty_kids kind) result }
+        ensures asked { self.new.asked ≡ rises self.old.asked }
+    {
+        self.asked = self.asked.saturating_add(1);
+        if let Some(index) = self.tables.tys.find(&kind) {
+            return Ok(Ty {
+                position: index as u32,
+            });
+        }
+        let cached = self.admit(self.above_node(&ty_node(kind)))?;
+        let index = self.tables.tys.len();
+        self.tables.tys.push(kind, cached)?;
+        Ok(Ty {
+            position: index as u32,
+        })
+    }
+}
 
 impl Handle for Ty {
     ghost part = { part.Ty };
@@ -25,33 +51,14 @@ impl Intern for Ty {
     ghost kids = { ty_kids };
 
     fn new(cx: &mut Interner, kind: TyKind) -> R<Ty> {
-        cx.asked = cx.asked.saturating_add(1);
-        if let Some(index) = cx.tys.find(&kind) {
-            return Ok(Ty {
-                position: index as u32,
-            });
-        }
-        let above = cx.above_node(&ty_node(kind));
-        if above.height > cx.high as u64 {
-            return Err(TermError::TooDeep);
-        }
-        if cx.len() >= cx.nodes {
-            return Err(TermError::TooMany);
-        }
-        let index = cx.tys.len();
-        match cx.tys.push(kind, above.cached()) {
-            Ok(()) => Ok(Ty {
-                position: index as u32,
-            }),
-            Err(_) => Err(TermError::Memory),
-        }
+        cx.store.ty(kind)
     }
 
     fn kind(self, cx: &Interner) -> TyKind {
-        cx.tys.get(self.position as usize).0
+        cx.store.tables.tys.get(self.position as usize).0
     }
 
     fn holds(self, cx: &Interner) -> bool {
-        (self.position as usize) < cx.tys.len()
+        (self.position as usize) < cx.store.tables.tys.len()
     }
 }

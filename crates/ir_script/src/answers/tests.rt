@@ -13,6 +13,11 @@ const LIMITS: Limits = Limits {
     size: 1 << 48,
 };
 
+// The same limits, with so many parts.
+fn at_most(nodes: u64) -> Limits {
+    Limits { nodes, ..LIMITS }
+}
+
 // The script's lines, or its fault.
 fn answered(alloc: Global, script: &[u8]) -> Result<Text, ScriptError> {
     answer(alloc, script, &LIMITS).map(|answered| answered.text)
@@ -127,4 +132,35 @@ fn many_lines_are_answered(rt: HostRuntime) -> Result<(), Fail> {
         Some((10_001, Cause::Sort))
     );
     Ok(())
+}
+
+// How many parts are held when the script is answered, or its fault, where there may be so many parts.
+fn held(alloc: Global, script: &[u8], nodes: u64) -> Result<u64, (u64, Cause)> {
+    match answer(alloc, script, &at_most(nodes)) {
+        Ok(answered) => Ok(answered.cx.len()),
+        Err(error) => Err((error.line, error.cause)),
+    }
+}
+
+#[test]
+fn parts_are_counted(rt: HostRuntime) {
+    let alloc = rt.alloc();
+    let one = b"print (tuple (u8))";
+    let two = b"print (tuple (u8 u8))";
+    assert_eq!(rt; held(alloc, b"", 38), Err((0, Cause::TooMany)));
+    assert_eq!(rt; held(alloc, b"", 39), Ok(39));
+    assert_eq!(rt; held(alloc, one, 38), Err((0, Cause::TooMany)));
+    assert_eq!(rt; held(alloc, one, 39), Err((1, Cause::TooMany)));
+    assert_eq!(rt; held(alloc, one, 40), Err((1, Cause::TooMany)));
+    assert_eq!(rt; held(alloc, one, 41), Ok(41));
+    assert_eq!(rt; held(alloc, two, 41), Ok(41));
+    assert_eq!(rt; held(alloc, b"print u8\nprint (tuple ())", 39), Ok(39));
+    assert_eq!(rt;
+        held(alloc, b"print (tuple (u8))\nprint (tuple (u8))", 41),
+        Ok(41)
+    );
+    assert_eq!(rt;
+        held(alloc, b"print (tuple (u8))\nprint (tuple (u8 u8))", 42),
+        Err((2, Cause::TooMany))
+    );
 }

@@ -7,9 +7,9 @@ use Rattle.ir_laws.specs.Heap.{Each, IsLive, largest, cached_height, tree_of}
 use Rattle.ir_laws.specs.Spelling.{field_text as text_of_field}
 use Rattle.ir_laws.specs.Spelling.{spell as spelling}
 use Rattle.ir_table.specs.Interner.{heap}
-use Rattle.ir_table.specs.Kinds.{field_seen, fields_of, kids_of, node_kids, node_shape, ty_shape, ty_kids, region_shape, tys_kids}
+use Rattle.ir_table.specs.Kinds.{field_seen, fields_of, kids_of, node_kids, node_shape, ty_shape, ty_kids, const_shape, region_shape, tys_kids}
 use Rattle.ir_table.specs.Spelled.{Begins, IsNoList, name_text, places_text}
-use Rattle.ir_table.proofs.SpellingLemmas.{begins_append, begins_more, err_after, ok_instead, ok_last, node_spelled, list_spelled, bare_node, whole_node, ty_no_list, region_no_list, fixed_step, group_step, field_step, kid_step, empty_list, list_begun, list_step, rest_kid}
+use Rattle.ir_table.proofs.SpellingLemmas.{bare_list, begins_append, begins_more, err_after, ok_instead, ok_last, node_spelled, list_spelled, bare_node, whole_node, ty_no_list, region_no_list, const_no_list, fixed_step, group_step, field_step, kid_step, empty_list, list_begun, list_step, rest_kid}
 use Rattle.ir_table.proofs.spelling.+spelling.Goals as goal
 use Rattle.ir_table.proofs.spelling.+spelling.Goals.{spell_places-in-Fixed+in_ok-append_both-in-Fixed, spell_places-in-ForGroup, spell_places-in-AField+in-Some+in_ok-append_both-in-AField, spell_places-in-AKid+in-Some-get+in_ok-append-in-AKid+in_ok-spell_part-in-AKid}
 
@@ -52,6 +52,23 @@ spell_part-returns-in-Ty-clause-ok g t c = rw c.in-Ty.is (ok_instead c.args.out.
 pub spell_part-returns-in-Region-clause-ok : goal.spell_part-returns-in-Region-clause-ok
 spell_part-returns-in-Region-clause-ok g t c = rw c.in-Region.is (ok_instead c.args.out.now c.spell_node-in-Region.new.out _ _ c.spell_node-in-Region.result
     (node_spelled (name_text (g.N.Names.named c.args.names.now)) (heap c.args.cx.now) (part.Region c.in-Region.region) (region_shape c.kind-in-Region.result) _ c.kind-in-Region.ensures (node_shape c.region_node.result) (node_kids c.region_node.result) c.region_node.ensures.shape c.region_node.ensures.kids) c.spell_node-in-Region.ensures.ok)
+
+pub spell_part-spell_node-requires-in-Const : goal.spell_part-spell_node-requires-in-Const
+spell_part-spell_node-requires-in-Const g t c κs within =
+    let high : cached_height (heap c.args.cx.now) c.args.part ≡ 1 + largest (cached_height (heap c.args.cx.now)) (node_kids c.const_node.result) = rw (c.in-Const.is, c.const_node.ensures.kids) c.kind-in-Const.ensures.height in
+    let lower : 3 * largest (cached_height (heap c.args.cx.now)) (node_kids c.const_node.result) + 2 < 3 * cached_height (heap c.args.cx.now) c.args.part = omega arith in
+    let live = subst (Each (IsLive (heap c.args.cx.now))) (sym c.const_node.ensures.kids) c.kind-in-Const.ensures.kids_live in
+    let no_list = subst IsNoList (sym c.const_node.ensures.shape) (const_no_list c.kind-in-Const.result) in
+    search (rules, lower, live, no_list)
+
+pub spell_part-returns-in-Const-clause-ok : goal.spell_part-returns-in-Const-clause-ok
+spell_part-returns-in-Const-clause-ok g t c = rw c.in-Const.is (ok_instead c.args.out.now c.spell_node-in-Const.new.out _ _ c.spell_node-in-Const.result
+    (node_spelled (name_text (g.N.Names.named c.args.names.now)) (heap c.args.cx.now) (part.Const c.in-Const.konst) (const_shape c.kind-in-Const.result) _ c.kind-in-Const.ensures (node_shape c.const_node.result) (node_kids c.const_node.result) c.const_node.ensures.shape c.const_node.ensures.kids) c.spell_node-in-Const.ensures.ok)
+
+pub spell_part-returns-in_default-clause-ok : goal.spell_part-returns-in_default-clause-ok
+spell_part-returns-in_default-clause-ok g t c =
+    ok_instead c.args.out.now c.append.new.self (codes "()") _ c.append.result
+    (bare_list (name_text (g.N.Names.named c.args.names.now)) c.args.cx.now.store.tables c.args.cx.now.store.sound c.args.part c.requires c.in_default.not-Ty c.in_default.not-Const c.in_default.not-Region c.in_default.not-Tys) c.append.ensures.ok
 
 pub spell_part-returns-in-Tys-clause-ok : goal.spell_part-returns-in-Tys-clause-ok
 spell_part-returns-in-Tys-clause-ok g t c = rw c.in-Tys.is (ok_instead c.args.out.now c.spell_tys.new.out _ _ c.spell_tys.result

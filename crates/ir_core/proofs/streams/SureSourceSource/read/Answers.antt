@@ -1,4 +1,4 @@
-use Rattle.std.proofs.Common.{◌≡◌, ℕ, List, ◌+◌, ◌-◌, ◌≤◌, ◌++◌, Some, length, min, take, drop, ◌∙◌, ap, arith, subst}
+use Rattle.std.proofs.Common.{◌≡◌, ℕ, List, ◌+◌, ◌-◌, ◌++◌, Some, length, min, take, drop, ◌∙◌, ap, arith, subst}
 use Rattle.ir_core.specs.Streams.{Reads}
 use Rattle.ir_core.proofs.StreamLemmas.{Reads-copied}
 use Rattle.ir_core.proofs.streams.SureSourceSource.read.Goals as goal
@@ -9,10 +9,9 @@ returns-clause-reads c =
     let n : ℕ = c.min-taken.result in
     let items : List ℕ = c.self.inside.bytes.items in
     let len = c.self.inside.bytes.ok.0 in
-    let in_items : at ≤ length items = omega (arith, c.self.invariant) in
     let is_least : n ≡ min (length c.args.into.now) (length items - at) = omega (arith, c.min-taken.ensures, c.len.ensures) in
     let span : at + n - at ≡ n = omega arith in
     let is_front : c.copy_from_slice.new.self ≡ take n (drop at items) =
     c.copy_from_slice.ensures.after ∙ ap (λ (k : ℕ). take k (drop at c.deref.result.now)) span ∙ ap (λ (l : List ℕ). take n (drop at l)) c.deref.ensures.value in
     let P : List ℕ → Type 0 = λ old. Reads (Some old) (Some (drop (at + n) items)) (c.copy_from_slice.new.self ++ drop n c.args.into.now) n in
-    subst P c.self.view_is (Reads-copied items c.copy_from_slice.new.self c.args.into.now at n in_items is_least is_front)
+    subst P c.self.view_is (Reads-copied items c.copy_from_slice.new.self c.args.into.now at n (omega arith) (λ none. omega arith) is_front)

@@ -4,4 +4,4 @@ use Rattle.ir_table.proofs.type_lists.TysInternList.holds.Goals as goal
 
 pub returns : goal.returns
 unfolding heap_of
-returns c = holds_iff tys_sketch c.args.cx.now.lists c.args.self.position c.len.result c.len.ensures
+returns c = holds_iff tys_sketch c.args.cx.now.store.tables.type_lists c.args.self.position c.len.result c.len.ensures

@@ -4,4 +4,4 @@ use Rattle.ir_table.proofs.types.TyIntern.holds.Goals as goal
 
 pub returns : goal.returns
 unfolding heap_of
-returns c = holds_iff ty_sketch c.args.cx.now.tys c.args.self.position c.len.result c.len.ensures
+returns c = holds_iff ty_sketch c.args.cx.now.store.tables.tys c.args.self.position c.len.result c.len.ensures

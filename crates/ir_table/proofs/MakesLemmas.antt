@@ -1,0 +1,144 @@
+-- What calls that make trees answer together.
+use Rattle.std.proofs.Common.{◌≡◌, suc, List, [], ◌∷◌, ◌++◌, Result, Ok, Err, OnOk, true, ◌⊎◌, inl, inr, ⊎_elim, refl, sym, ap, subst, ◌∙◌, arith}
+use Rattle.ir_core.specs.declared.errors.TermError.{TermError}
+use Rattle.ir_core.specs.declared.errors.TermError.TheVariants as error
+use Rattle.ir_core.specs.declared.handles.Part.{Part}
+use Rattle.ir_laws.specs.Counts.{height, heights}
+use Rattle.ir_laws.specs.Heap.{Shape, plant, forest, Heap, Each, largest, IsLive, IsSound, Grows, tree_of, cached_height, height_above}
+use Rattle.ir_laws.specs.Held.{Stands, HoldsJust, Counts}
+use Rattle.ir_laws.specs.Limits.{Limits, capped}
+use Rattle.ir_laws.specs.Parts.{is_part, is_set}
+use Rattle.ir_laws.specs.Tree.{Term}
+use Rattle.ir_laws.proofs.HeapLemmas.{Each-map, height-plant, heights-forest, height-tree_of, Grows-refl, Grows-trans}
+use Rattle.ir_laws.proofs.PartSets.{no_part, part_is, part_here, part_of_cons, part_left, part_right, part_of_append, without, without_held, without_shorter}
+use Rattle.ir_table.specs.State.{State, NewAnswers, Makes}
+
+-- a tree that stands in a heap stands in a later one
+stands_on : (h k : Heap Part) (t : Term) → Grows h k → Stands h t → Stands k t
+stands_on h k t grows s = (s.0, grows.live s.0 s.1, grows.tree s.0 s.1 ∙ s.2)
+
+pub makes_none : (s : State) → Makes {T = Unit {0}} s s [] (Ok tt)
+makes_none s = record {
+  grows = Grows-refl s.heap;
+  only = λ p live. inl live;
+  all = λ t e. absurd (no_part t e);
+  too_deep = λ e. absurd (cc e);
+  too_many = λ e. absurd (cc e);
+  causes = tt;
+  limits = refl;
+}
+
+-- the tree of a node is as high as the node
+planted_height : (h : Heap Part) (shape : Shape) (kids : List Part) → IsSound h → Each (IsLive h) kids → height (plant shape (forest (tree_of h) kids)) ≡ height_above h kids
+planted_height h shape kids sound live = height-plant shape (forest (tree_of h) kids)
+    ∙ ap suc (heights-forest (tree_of h) (cached_height h) kids (Each-map (IsLive h) (λ p. height (tree_of h p) ≡ cached_height h p) (height-tree_of h sound) kids live))
+
+module _ {T : Type 0} {name : T → Part} (old new : State) (shape : Shape) (kids : List Part) where
+  pub makes_new : (r : Result T TermError) (t : Term) → IsSound old.heap → Counts old.heap old.count → Each (IsLive old.heap) kids
+      → t ≡ plant shape (forest (tree_of old.heap) kids) → NewAnswers name old new shape kids r → Makes old new (t ∷ []) r
+  makes_new (Ok x) t sound counted live e a = record {
+    grows = a.ok.grows;
+    only = λ p now. ⊎_elim inl (λ same. inr (part_is t [] (tree_of new.heap p) (e ∙ sym a.ok.tree ∙ sym (ap (tree_of new.heap) same)))) (a.ok.only p now);
+    all = λ u m. ⊎_elim (λ here. (name x, a.ok.live, a.ok.tree ∙ sym e ∙ here)) (λ none. absurd (no_part u none)) (part_of_cons t [] u m);
+    too_deep = λ q. absurd (cc q);
+    too_many = λ q. absurd (cc q);
+    causes = tt;
+    limits = a.limits;
+  }
+  makes_new (Err x) t sound counted live e a = record {
+    grows = subst (λ (s : State). Grows old.heap s.heap) (sym a.err) (Grows-refl old.heap);
+    only = λ p now. inl (subst (λ (s : State). IsLive s.heap p) a.err now);
+    all = tt;
+    too_deep = λ q.
+        let deep = a.too_deep q in
+        let high = ap height e ∙ planted_height old.heap shape kids sound live in
+        (t, part_here t [], omega arith);
+    too_many = λ q us covers.
+        let full = a.too_many q in
+        let rest = counted.least (without t us) (λ p here. without_held t us (tree_of old.heap p) (covers.held p here) (λ same. full.0 (p, here, sym same ∙ e))) in
+        let less = without_shorter t us (covers.new t (part_here t [])) in
+        omega arith;
+    causes = a.causes;
+    limits = a.limits;
+  }
+
+-- one call after another
+pub makes_then : {T U : Type 0} (old mid new : State) (ts us : List Term) (x : T) (r : Result U TermError)
+    → Makes old mid ts (Ok x) → Makes mid new us r → Makes old new (ts ++ us) r
+makes_then {U = U} old mid new ts us x r a b = record {
+  grows = Grows-trans old.heap mid.heap new.heap a.grows b.grows;
+  only = λ p live. ⊎_elim
+      (λ before. ⊎_elim inl (λ made. inr (part_left ts us (tree_of new.heap p) (ap (is_part ts) (b.grows.tree p before) ∙ made))) (a.only p before))
+      (λ made. inr (part_right ts us (tree_of new.heap p) made))
+      (b.only p live);
+  all = by r b.all;
+  too_deep = λ q. let w = b.too_deep q in let same = ap (λ (l : Limits). (capped l).height) a.limits in (w.0, part_right ts us w.0 w.1, omega arith);
+  too_many = λ q vs covers.
+      let more = b.too_many q vs (record {
+        held = λ p live. ⊎_elim
+            (λ before. ap (is_part vs) (a.grows.tree p before) ∙ covers.held p before)
+            (λ made. covers.new (tree_of mid.heap p) (part_left ts us (tree_of mid.heap p) made))
+            (a.only p live);
+        new = λ t m. covers.new t (part_right ts us t m);
+      }) in
+      let same = ap (λ (l : Limits). (capped l).nodes) a.limits in
+      omega arith;
+  causes = b.causes;
+  limits = b.limits ∙ a.limits;
+}
+  where
+    by : (r : Result U TermError) → OnOk r ((t : Term) → is_part us t ≡ true → Stands new.heap t) → OnOk r ((t : Term) → is_part (ts ++ us) t ≡ true → Stands new.heap t)
+    by (Ok y) all = λ t m. ⊎_elim (λ first. stands_on mid.heap new.heap t b.grows (a.all t first)) (all t) (part_of_append ts us t m)
+    by (Err y) all = tt
+
+-- a refused call, as one that makes more trees and has another answer
+pub makes_err : {T U : Type 0} (old new : State) (ts us : List Term) (e : TermError) → Makes {T = T} old new ts (Err e)
+    → ((t : Term) → is_part ts t ≡ true → is_part us t ≡ true) → Makes {T = U} old new us (Err e)
+makes_err {T = T} old new ts us e a more = record {
+  grows = a.grows;
+  only = λ p live. ⊎_elim inl (λ made. inr (more (tree_of new.heap p) made)) (a.only p live);
+  all = tt;
+  too_deep = λ q. let same : e ≡ error.TooDeep = cc in let w = a.too_deep (ap Err same) in (w.0, more w.0 w.1, w.2);
+  too_many = λ q vs covers. let same : e ≡ error.TooMany = cc in a.too_many (ap Err same) vs (record { held = covers.held; new = λ t m. covers.new t (more t m) });
+  causes = a.causes;
+  limits = a.limits;
+}
+
+-- the same trees in another order
+pub makes_same : {T : Type 0} (old new : State) (ts us : List Term) (r : Result T TermError) → Makes old new ts r
+    → ((t : Term) → is_part ts t ≡ true → is_part us t ≡ true) → ((t : Term) → is_part us t ≡ true → is_part ts t ≡ true) → Makes old new us r
+makes_same old new ts us (Err e) a more back = makes_err old new ts us e a more
+makes_same old new ts us (Ok x) a more back = record {
+  grows = a.grows;
+  only = λ p live. ⊎_elim inl (λ made. inr (more (tree_of new.heap p) made)) (a.only p live);
+  all = λ t m. a.all t (back t m);
+  too_deep = λ q. absurd (cc q);
+  too_many = λ q. absurd (cc q);
+  causes = tt;
+  limits = a.limits;
+}
+
+-- the same with another value
+pub makes_ok : {T U : Type 0} (old new : State) (ts : List Term) (x : T) (y : U) → Makes old new ts (Ok x) → Makes old new ts (Ok y)
+makes_ok old new ts x y a = record {
+  grows = a.grows;
+  only = a.only;
+  all = a.all;
+  too_deep = λ q. absurd (cc q);
+  too_many = λ q. absurd (cc q);
+  causes = tt;
+  limits = a.limits;
+}
+
+-- what is held afterwards
+pub makes_held : {T : Type 0} (old new : State) (ts held us : List Term) (x : T) → HoldsJust old.heap held → Makes old new ts (Ok x) → is_set us ≡ true
+    → ((t : Term) → is_part us t ≡ true → (is_part held t ≡ true) ⊎ (is_part ts t ≡ true))
+    → ((t : Term) → is_part held t ≡ true → is_part us t ≡ true) → ((t : Term) → is_part ts t ≡ true → is_part us t ≡ true) → HoldsJust new.heap us
+makes_held old new ts held us x just a set either before made = record {
+  set = set;
+  stand = λ t m. ⊎_elim (λ there. stands_on old.heap new.heap t a.grows (just.stand t there)) (a.all t) (either t m);
+  only = λ p live. ⊎_elim
+      (λ there. before (tree_of new.heap p) (ap (is_part held) (a.grows.tree p there) ∙ just.only p there))
+      (made (tree_of new.heap p))
+      (a.only p live);
+}

@@ -1,0 +1,63 @@
+//! Constants.
+ghost use Rattle.ir_core.specs.declared.handles.Part.TheVariants as part;
+ghost use Rattle.ir_laws.specs.Heap.{Each, IsLive};
+ghost use Rattle.ir_table.specs.Interner.{rises, stored};
+ghost use Rattle.ir_table.specs.Kinds.{heap_of, const_shape};
+ghost use Rattle.ir_table.specs.State.{NewAnswers};
+ghost use Rattle.std.specs.Prelude.{◌≡◌, []};
+
+use crate::split::const_node;
+use crate::store::Store;
+use crate::{Handle, Intern, Interner};
+use ir_core::{Const, ConstKind, Part, R};
+
+impl Store {
+    // The constant of the kind.
+    pub(crate) fn constant(&mut self, kind: ConstKind) -> R<Const>
+        ensures answers { NewAnswers part.Const (stored self.old) (stored self.new) (const_shape kind) [] result }
+        ensures asked { self.new.asked ≡ rises self.old.asked }
+    {
+        self.asked = self.asked.saturating_add(1);
+        if let Some(index) = self.tables.consts.find(&kind) {
+            return Ok(Const {
+                position: index as u32,
+            });
+        }
+        let cached = self.admit(self.above_node(&const_node(kind)))?;
+        let index = self.tables.consts.len();
+        self.tables.consts.push(kind, cached)?;
+        Ok(Const {
+            position: index as u32,
+        })
+    }
+}
+
+impl Handle for Const {
+    ghost part = { part.Const };
+
+    ghost part_injective = { λ x y e. Prim.cc e };
+
+    fn as_part(self) -> Part {
+        Part::Const(self)
+    }
+}
+
+impl Intern for Const {
+    type Kind = ConstKind;
+
+    ghost shape = { const_shape };
+
+    ghost kids = { λ _. [] };
+
+    fn new(cx: &mut Interner, kind: ConstKind) -> R<Const> {
+        cx.store.constant(kind)
+    }
+
+    fn kind(self, cx: &Interner) -> ConstKind {
+        cx.store.tables.consts.get(self.position as usize).0
+    }
+
+    fn holds(self, cx: &Interner) -> bool {
+        (self.position as usize) < cx.store.tables.consts.len()
+    }
+}

@@ -1,0 +1,16 @@
+//! What callers may rely on at any moment of an interner.
+ghost use Rattle.ir_table.specs.Laws.{ConstantsAreTold, PartsAreCounted, PartsAreTold, RegionsAreTold, TypeListsAreTold, TypesAreTold};
+
+/// Two live handles of one sort in one interner are equal exactly where they stand for one term.
+pub fn equal_handles()
+    ensures types { TypesAreTold }
+    ensures constants { ConstantsAreTold }
+    ensures regions { RegionsAreTold }
+    ensures type_lists { TypeListsAreTold }
+    ensures parts { PartsAreTold }
+{}
+
+/// The number of parts is that of the different terms that stand for them.
+pub fn parts_are_counted()
+    ensures { PartsAreCounted }
+{}

@@ -1,0 +1,77 @@
+//! Lists of the variables that a binder binds.
+ghost use Rattle.ir_core.specs.declared.handles.Part.TheVariants as part;
+ghost use Rattle.ir_laws.specs.Heap.{Each, IsLive};
+ghost use Rattle.ir_table.specs.Interner.{rises, stored};
+ghost use Rattle.ir_table.specs.Kinds.{heap_of, variables_shape};
+ghost use Rattle.ir_table.specs.State.{NewAnswers};
+ghost use Rattle.std.specs.Prelude.{◌≡◌, []};
+
+use crate::above::Above;
+use crate::store::Store;
+use crate::{Handle, InternList, Interner, ListKey};
+use ir_core::{BoundVarKind, BoundVarKinds, Part, R};
+use smallvec::SmallVec;
+
+impl Store {
+    // The list of the items.
+    pub(crate) fn variables(&mut self, items: &[BoundVarKind]) -> R<BoundVarKinds>
+        ensures answers { NewAnswers part.BoundVarKinds (stored self.old) (stored self.new) (variables_shape items.now) [] result }
+        ensures asked { self.new.asked ≡ rises self.old.asked }
+    {
+        self.asked = self.asked.saturating_add(1);
+        let key = <SmallVec<BoundVarKind, 8> as ListKey>::from_slice(self.alloc, items)?;
+        if let Some(index) = self.tables.variable_lists.find(&key) {
+            return Ok(BoundVarKinds {
+                position: index as u32,
+            });
+        }
+        let cached = self.admit(Above::leaf())?;
+        let index = self.tables.variable_lists.len();
+        self.tables.variable_lists.push(key, cached)?;
+        Ok(BoundVarKinds {
+            position: index as u32,
+        })
+    }
+}
+
+impl Handle for BoundVarKinds {
+    ghost part = { part.BoundVarKinds };
+
+    ghost part_injective = { λ x y e. Prim.cc e };
+
+    fn as_part(self) -> Part {
+        Part::BoundVarKinds(self)
+    }
+}
+
+impl InternList for BoundVarKinds {
+    type Item = BoundVarKind;
+
+    ghost list_shape = { variables_shape };
+
+    ghost list_kids = { λ _. [] };
+
+    fn empty(cx: &Interner) -> BoundVarKinds {
+        cx.defaults.empty.bound_var_kinds
+    }
+
+    fn new_from_slice(cx: &mut Interner, items: &[BoundVarKind]) -> R<BoundVarKinds> {
+        cx.store.variables(items)
+    }
+
+    fn as_slice<'a>(self, cx: &'a Interner) -> &'a [BoundVarKind] {
+        cx.store.tables.variable_lists.get(self.position as usize)
+    }
+
+    fn len(self, cx: &Interner) -> usize {
+        self.as_slice(cx).len()
+    }
+
+    fn is_empty(self, cx: &Interner) -> bool {
+        self.as_slice(cx).is_empty()
+    }
+
+    fn holds(self, cx: &Interner) -> bool {
+        (self.position as usize) < cx.store.tables.variable_lists.len()
+    }
+}

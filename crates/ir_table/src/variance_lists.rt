@@ -1,0 +1,77 @@
+//! Lists of variances.
+ghost use Rattle.ir_core.specs.declared.handles.Part.TheVariants as part;
+ghost use Rattle.ir_laws.specs.Heap.{Each, IsLive};
+ghost use Rattle.ir_table.specs.Interner.{rises, stored};
+ghost use Rattle.ir_table.specs.Kinds.{heap_of, variances_shape};
+ghost use Rattle.ir_table.specs.State.{NewAnswers};
+ghost use Rattle.std.specs.Prelude.{◌≡◌, []};
+
+use crate::above::Above;
+use crate::store::Store;
+use crate::{Handle, InternList, Interner, ListKey};
+use ir_core::{Part, R, Variance, VariancesOf};
+use smallvec::SmallVec;
+
+impl Store {
+    // The list of the items.
+    pub(crate) fn variances(&mut self, items: &[Variance]) -> R<VariancesOf>
+        ensures answers { NewAnswers part.VariancesOf (stored self.old) (stored self.new) (variances_shape items.now) [] result }
+        ensures asked { self.new.asked ≡ rises self.old.asked }
+    {
+        self.asked = self.asked.saturating_add(1);
+        let key = <SmallVec<Variance, 8> as ListKey>::from_slice(self.alloc, items)?;
+        if let Some(index) = self.tables.variance_lists.find(&key) {
+            return Ok(VariancesOf {
+                position: index as u32,
+            });
+        }
+        let cached = self.admit(Above::leaf())?;
+        let index = self.tables.variance_lists.len();
+        self.tables.variance_lists.push(key, cached)?;
+        Ok(VariancesOf {
+            position: index as u32,
+        })
+    }
+}
+
+impl Handle for VariancesOf {
+    ghost part = { part.VariancesOf };
+
+    ghost part_injective = { λ x y e. Prim.cc e };
+
+    fn as_part(self) -> Part {
+        Part::VariancesOf(self)
+    }
+}
+
+impl InternList for VariancesOf {
+    type Item = Variance;
+
+    ghost list_shape = { variances_shape };
+
+    ghost list_kids = { λ _. [] };
+
+    fn empty(cx: &Interner) -> VariancesOf {
+        cx.defaults.empty.variances
+    }
+
+    fn new_from_slice(cx: &mut Interner, items: &[Variance]) -> R<VariancesOf> {
+        cx.store.variances(items)
+    }
+
+    fn as_slice<'a>(self, cx: &'a Interner) -> &'a [Variance] {
+        cx.store.tables.variance_lists.get(self.position as usize)
+    }
+
+    fn len(self, cx: &Interner) -> usize {
+        self.as_slice(cx).len()
+    }
+
+    fn is_empty(self, cx: &Interner) -> bool {
+        self.as_slice(cx).is_empty()
+    }
+
+    fn holds(self, cx: &Interner) -> bool {
+        (self.position as usize) < cx.store.tables.variance_lists.len()
+    }
+}
