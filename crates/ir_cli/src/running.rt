@@ -22,7 +22,7 @@ pub const LIMITS: Limits = Limits {
     number: 65_535,
     height: 512,
     nodes: 1_000_000,
-    size: 1 << 48,
+    size: 1_000_000,
 };
 
 /// How a run ended. The program ends with its place in this list, from 0 on, as exit code.

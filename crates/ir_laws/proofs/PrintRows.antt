@@ -1,7 +1,7 @@
 -- Scripts of the forms and labels built so far, each named by what it shows: the text and how many parts are held after it, or the line and the causes that may be named.
 use Rattle.std.proofs.Common.{◌≡◌, ℕ, [], ◌∷◌, refl}
 use Rattle.std.specs.Prelude.{codes}
-use Rattle.ir_laws.specs.Cause.{Syntax, Unknown, WrongSort, TooDeep, TooMany, TooLarge}
+use Rattle.ir_laws.specs.Cause.{Syntax, Unknown, Duplicate, WrongSort, TooDeep, TooMany, TooLarge}
 use Rattle.ir_laws.specs.Limits.{Limits, program_limits}
 use Rattle.ir_laws.proofs.Said.{Wrote, Refused, said, said_within}
 
@@ -84,6 +84,17 @@ names_come_before_sorts = refl
 
 the_first_line_is_named : said (codes "print (tuple (static))\nprint X") ≡ Refused 1 (WrongSort ∷ [])
 the_first_line_is_named = refl
+
+-- ---- `let` and `same`
+
+names_stand_for_terms : said (codes "let A (tuple (u8 u8))\nlet B (tuple (u8 u8))\nsame A B\nsame A (tuple (u8))") ≡ Wrote (codes "yes\nno\n") 43
+names_stand_for_terms = refl
+
+a_name_is_declared_once : said (codes "let A u8\nlet A X") ≡ Refused 2 (Unknown ∷ Duplicate ∷ [])
+a_name_is_declared_once = refl
+
+same_wants_one_sort : said (codes "same u8 static") ≡ Refused 1 (WrongSort ∷ [])
+same_wants_one_sort = refl
 
 -- ---- limits
 

@@ -1,30 +1,35 @@
 -- What a line meets and writes, and what the lines do together.
-use Rattle.std.proofs.Common.{◌≡◌, ◌∙◌, ◌≤◌, ◌<◌, ℕ, suc, Bool, true, false, cond, ◌&&◌, nat_le, List, [], ◌∷◌, ◌++◌, length, bytes_eq, codes, Option, Some, None, Ok, Err, refl, sym, ap, subst, ⊎_elim, true≢false, arith}
+use Rattle.std.proofs.Common.{◌≡◌, ◌∙◌, ◌≤◌, ◌<◌, ℕ, suc, max, Bool, true, false, cond, ◌&&◌, nat_le, List, [], ◌∷◌, ◌++◌, length, bytes_eq, codes, Option, Some, None, Ok, Err, refl, sym, ap, subst, ⊎_elim, true≢false, arith}
 use Rattle.std.specs.Option.{option_map}
+use Rattle.std.specs.List.{list_all}
+use Rattle.std.proofs.lemmas.Bool.{and_parts, and_from}
 use Rattle.std.specs.Prelude.{sum_by}
 use Rattle.std.proofs.lemmas.Bool.Decides.{nat_tests}
 use Rattle.std.proofs.Math.Bool.{and-true}
 use Rattle.ir_core.specs.declared.errors.TermError.{TermError}
 use Rattle.ir_core.specs.declared.errors.TermError.TheVariants as error
 use Rattle.ir_core.specs.declared.handles.Part.{Part}
-use Rattle.ir_laws.specs.Answer.{Answer, State, Succeeds, Writes, Meets, Allows, Lines, Fault, answer, answer_lines, start, resolved, text_of_line, after_line, with_end, line_text}
+use Rattle.ir_laws.specs.Answer.{Answer, State, Succeeds, Writes, Meets, Allows, Lines, Fault, answer, answer_lines, start, declared, text_of_line, after_line, with_end, line_text}
 use Rattle.ir_laws.specs.Cause as cause
 use Rattle.ir_laws.specs.Cause.{is_cause_among}
-use Rattle.ir_laws.specs.Causes.{causes_of, earliest, tree_stages_if, are_listed}
+use Rattle.ir_laws.specs.Causes.{earliest, tree_stages, tree_stages_if, are_listed, limit_causes, unlisted_causes, size_causes}
 use Rattle.ir_laws.specs.Counts.{height, size}
-use Rattle.ir_laws.specs.Environment.{Environment, tree_of}
+use Rattle.ir_laws.specs.Environment.{form_trees, with_own}
+use Rattle.ir_laws.specs.Elaboration.{all_fit}
 use Rattle.ir_laws.specs.Expression as expression
 use Rattle.ir_laws.specs.Expression.{expr_list, lines_of}
-use Rattle.ir_laws.specs.Form.{Form, Blank, Print, FormRow, one_term, form_of, form_of_exprs}
+use Rattle.ir_script.specs.declared.expression.Expr as code_expr
+use Rattle.ir_script.specs.Views.{exprs_in}
+use Rattle.ir_laws.specs.Form.{Form, Let, Print, Same, FormRow, name_in, let_form, one_term, two_terms, form_of, form_of_exprs}
 use Rattle.ir_laws.specs.Formed.{is_formed}
 use Rattle.ir_laws.specs.Heap.{Heap}
 use Rattle.ir_laws.specs.Held.{HoldsJust}
 use Rattle.ir_laws.specs.Limits.{Limits, capped, is_within}
-use Rattle.ir_laws.specs.Names.{unless, unknown_in}
+use Rattle.ir_laws.specs.LineTrees.{operands, made_trees}
+use Rattle.ir_laws.specs.Names.{unless, name_causes}
 use Rattle.ir_laws.specs.Parts.{with_parts_of}
 use Rattle.ir_laws.specs.Phrase.{Phrase, phrase_of, and_then}
-use Rattle.ir_laws.specs.Sorts.{misfits, operand}
-use Rattle.ir_laws.specs.Spelling.{spell}
+use Rattle.ir_laws.specs.Sorts.{sort_causes}
 use Rattle.ir_laws.specs.Start.{start_parts}
 use Rattle.ir_laws.specs.Tree.{Text, Term}
 use Rattle.ir_laws.proofs.FormedLemmas.{phrases_formed}
@@ -32,8 +37,9 @@ use Rattle.ir_script.specs.declared.causes.Cause.{Cause}
 use Rattle.ir_script.specs.declared.causes.Cause.TheVariants as code
 use Rattle.ir_script.specs.declared.causes.ScriptError.{ScriptError}
 use Rattle.ir_table.specs.Start.{IsStartRefusal}
-use Rattle.ir_script.specs.Causes.{no_names, Says, IsAmong, cause_seen, cause_of}
-use Rattle.ir_script.specs.Answered.{causes_met, written, parts_after, AnswersForm, parts_left, AllowsCause, AllowsFault}
+use Rattle.ir_script.specs.Scope.{Named}
+use Rattle.ir_script.specs.Causes.{Says, IsAmong, cause_seen, cause_of}
+use Rattle.ir_script.specs.Answered.{left_by, causes_met, written, left_after, AnswersForm, parts_left, AllowsCause, AllowsFault}
 use Rattle.ir_script.specs.Plain.{is_plain}
 use Rattle.ir_script.proofs.PlainLemmas.{plain_fits, plain_listed}
 
@@ -44,32 +50,39 @@ earliest_among [] rest None h = absurd h
 earliest_among [] rest (Some c) h = absurd (true≢false (sym h))
 earliest_among (c ∷ cs) rest o h = refl
 
--- the stages of `print p`, by its unknown names, its misfits and its tree
-stages : Limits → List Term → List cause.Cause → List cause.Cause → Option Term → List cause.Cause
-stages limits held unknown misfit tree = earliest (unknown ∷ misfit ∷ tree_stages_if limits no_names held (option_map Print tree))
+module _ (limits : Limits) (form : Form Phrase) (s : State) where
+  stages : List cause.Cause → List cause.Cause → Option (Form Term) → List cause.Cause
+  stages names sorts tree = earliest (names ∷ sorts ∷ tree_stages_if limits s.environment s.parts tree)
 
-module _ (limits : Limits) (p : Phrase) where
-  met : (held : List Term) → causes_met limits (Some (Print p)) held ≡ stages limits held (unknown_in no_names None p) (misfits no_names operand p) (tree_of no_names p)
-  unfolding stages
-  met held = refl
+  -- the names, the misfits and the trees of the form
+  own_names : List cause.Cause
+  own_names = name_causes s.environment form
 
-  -- an unknown name
-  pub unknown_met : is_cause_among (unknown_in no_names None p) cause.Unknown ≡ true → (held : List Term) → Says code.Unknown (causes_met limits (Some (Print p)) held)
-  unfolding stages
-  unknown_met h held = subst (λ cs. is_cause_among cs cause.Unknown ≡ true)
-      (sym (met held ∙ earliest_among (unknown_in no_names None p) (misfits no_names operand p ∷ tree_stages_if limits no_names held (option_map Print (tree_of no_names p))) (Some cause.Unknown) h)) h
+  own_sorts : List cause.Cause
+  own_sorts = sort_causes s.environment (with_own s.environment form) form
+
+  own_trees : Option (Form Term)
+  own_trees = form_trees (with_own s.environment form) form
+
+  met : causes_met limits (Some form) s ≡ stages own_names own_sorts own_trees
+  unfolding stages own_names own_sorts own_trees
+  met = refl
+
+  -- a cause of names
+  pub name_met : (c : Cause) → Says c (name_causes s.environment form) → Says c (causes_met limits (Some form) s)
+  unfolding stages own_names own_sorts own_trees
+  name_met c h = subst (Says c) (sym (met ∙ earliest_among own_names (own_sorts ∷ tree_stages_if limits s.environment s.parts own_trees) (cause_seen c) h)) h
 
   -- a term in a place of another sort
-  pub misfit_met : (c : Cause) → unknown_in no_names None p ≡ [] → Says c (misfits no_names operand p) → (held : List Term) → Says c (causes_met limits (Some (Print p)) held)
-  unfolding stages
-  misfit_met c known h held = subst (Says c)
-      (sym (met held ∙ ap (λ cs. stages limits held cs (misfits no_names operand p) (tree_of no_names p)) known
-      ∙ earliest_among (misfits no_names operand p) (tree_stages_if limits no_names held (option_map Print (tree_of no_names p))) (cause_seen c) h)) h
+  pub sort_met : (c : Cause) → name_causes s.environment form ≡ [] → Says c (sort_causes s.environment (with_own s.environment form) form) → Says c (causes_met limits (Some form) s)
+  unfolding stages own_names own_sorts own_trees
+  sort_met c known h = subst (Says c)
+      (sym (met ∙ ap (λ cs. stages cs own_sorts own_trees) known ∙ earliest_among own_sorts (tree_stages_if limits s.environment s.parts own_trees) (cause_seen c) h)) h
 
--- ---- the stages over trees, by the tests on the tree
+-- ---- the stages over trees, by the tests on the trees
 
 tests : (within listed few small : Bool) → List cause.Cause
-tests within listed few small = earliest ((unless (within && true) cause.TooDeep ++ unless few cause.TooMany) ∷ (unless (listed && true) cause.Unlisted ++ []) ∷ (unless (within && true) cause.TooDeep ++ unless few cause.TooMany) ∷ unless small cause.TooLarge ∷ [])
+tests within listed few small = earliest ((unless within cause.TooDeep ++ unless few cause.TooMany) ∷ (unless listed cause.Unlisted ++ []) ∷ (unless within cause.TooDeep ++ unless few cause.TooMany) ∷ unless small cause.TooLarge ∷ [])
 
 deep_test : (listed few small : Bool) → is_cause_among (tests false listed few small) cause.TooDeep ≡ true
 unfolding tests
@@ -88,207 +101,223 @@ clear_test : tests true true true true ≡ []
 unfolding tests
 clear_test = refl
 
-module _ (limits : Limits) (p : Phrase) (t : Term) (known : unknown_in no_names None p ≡ []) (fits : misfits no_names operand p ≡ []) (tree : tree_of no_names p ≡ Some t) (plain : is_plain t ≡ true) where
-  -- what is written, and what is held afterwards
-  pub print_written : written (Some (Print p)) ≡ spell (λ id. codes "?") t ++ 10 ∷ []
-  print_written = ap (λ o. text_of_line start (option_map Print o)) tree
+-- the greatest height of the trees
+abbrev pub tallest : List Term → ℕ
+tallest [] = 0
+tallest (t ∷ ts) = max (height t) (tallest ts)
 
-  pub print_left : (held : List Term) → parts_after limits (Some (Print p)) held ≡ with_parts_of held (t ∷ [])
-  print_left held = ap (λ o. (after_line limits (record { environment = no_names; parts = held }) (option_map Print o)).parts) tree
+both_low : (a b n : ℕ) → (nat_le a n && nat_le b n) ≡ nat_le (max a b) n
+both_low a b n = by (nat_le a n) (nat_le b n) (nat_le (max a b) n) refl refl refl
+  where
+    by : (x y z : Bool) → nat_le a n ≡ x → nat_le b n ≡ y → nat_le (max a b) n ≡ z → (x && y) ≡ z
+    by true true true e f g = refl
+    by true true false e f g = absurd (grind (arith, nat_tests))
+    by true false true e f g = absurd (grind (arith, nat_tests))
+    by true false false e f g = refl
+    by false y true e f g = absurd (grind (arith, nat_tests))
+    by false y false e f g = refl
 
-  module _ (held : List Term) where
-    few_parts : Bool
-    few_parts = nat_le (length (with_parts_of held (t ∷ []))) limits.nodes
+module _ (limits : Limits) where
+  within_is : (t : Term) → is_plain t ≡ true → is_within limits t ≡ nat_le (height t) limits.height
+  within_is t plain = ap (λ b. nat_le (height t) limits.height && b) (plain_fits limits t plain) ∙ and-true (nat_le (height t) limits.height)
 
-    is_small : Bool
-    is_small = nat_le (sum_by size (t ∷ [])) limits.size
+  all_within : (ts : List Term) → list_all is_plain ts ≡ true → all_fit (is_within limits) ts ≡ nat_le (tallest ts) limits.height
+  all_within [] plain = sym (let low : nat_le 0 limits.height ≡ true = grind (arith, nat_tests) in low)
+  all_within (t ∷ ts) plain =
+      let both = and_parts (is_plain t) (list_all is_plain ts) plain in
+      (λ i. within_is t both.0 i && all_within ts both.1 i) ∙ both_low (height t) (tallest ts) limits.height
 
-    by_tests : causes_met limits (Some (Print p)) held ≡ tests (is_within limits t) (are_listed [] t) few_parts is_small
-    unfolding stages tests few_parts is_small
-    by_tests = met limits p held ∙ (λ i. stages limits held (known i) (fits i) (tree i))
+all_listed : (ts : List Term) → list_all is_plain ts ≡ true → all_fit (are_listed []) ts ≡ true
+all_listed [] plain = refl
+all_listed (t ∷ ts) plain = let both = and_parts (is_plain t) (list_all is_plain ts) plain in and_from (are_listed [] t) (all_fit (are_listed []) ts) (plain_listed [] t both.0) (all_listed ts both.1)
 
-    within_is : is_within limits t ≡ nat_le (height t) limits.height
-    within_is = ap (λ b. nat_le (height t) limits.height && b) (plain_fits limits t plain) ∙ and-true (nat_le (height t) limits.height)
+-- The form meets no cause of names and sorts, and has this form with trees. Its operands are plain, are all that it makes, and it spells those others
+pub record HasTrees (limits : Limits) (form : Form Phrase) (s : State) (tree : Form Term) (ts us : List Term) : Type 0 where
+  pub known : name_causes s.environment form ≡ []
+  pub fits : sort_causes s.environment (with_own s.environment form) form ≡ []
+  pub trees : form_trees (with_own s.environment form) form ≡ Some tree
+  pub plain : list_all is_plain ts ≡ true
+  pub made : operands tree ++ made_trees limits s.environment tree ≡ ts
+  pub staged : tree_stages limits s.environment s.parts tree ≡ limit_causes limits s.parts ts ∷ (unlisted_causes ts ++ []) ∷ limit_causes limits s.parts ts ∷ size_causes limits us ∷ []
 
-    -- a tree that is too high
-    pub deep_met : limits.height < height t → Says code.TooDeep (causes_met limits (Some (Print p)) held)
-    deep_met h =
-        let high : nat_le (height t) limits.height ≡ false = grind (arith, nat_tests) in
-        subst (λ cs. is_cause_among cs cause.TooDeep ≡ true) (sym (by_tests ∙ ap (λ b. tests b (are_listed [] t) few_parts is_small) (within_is ∙ high))) (deep_test (are_listed [] t) few_parts is_small)
+module _ (limits : Limits) (form : Form Phrase) (s : State) (tree : Form Term) (ts us : List Term) (has : HasTrees limits form s tree ts us) where
+  -- what is written, and what is left
+  pub form_written : written (Some form) s ≡ with_end (line_text s.environment tree)
+  form_written = ap (text_of_line s) has.trees
 
-    -- too many parts, whatever its height
-    pub many_met : limits.nodes < length (with_parts_of held (t ∷ [])) → Says code.TooMany (causes_met limits (Some (Print p)) held)
+  pub form_names : (left_after limits (Some form) s).environment ≡ declared s.environment tree
+  form_names = ap (λ o. (after_line limits s o).environment) has.trees
+
+  pub form_parts : (left_after limits (Some form) s).parts ≡ with_parts_of s.parts ts
+  form_parts = ap (λ o. (after_line limits s o).parts) has.trees ∙ ap (with_parts_of s.parts) has.made
+
+  few_parts : Bool
+  few_parts = nat_le (length (with_parts_of s.parts ts)) limits.nodes
+
+  is_small : Bool
+  is_small = nat_le (sum_by size us) limits.size
+
+  by_tests : causes_met limits (Some form) s ≡ tests (all_fit (is_within limits) ts) (all_fit (are_listed []) ts) few_parts is_small
+  unfolding stages own_names own_sorts own_trees tests few_parts is_small
+  by_tests = met limits form s ∙ (λ i. stages limits form s (has.known i) (has.fits i) (has.trees i)) ∙ ap earliest has.staged
+
+  -- a tree that is too high
+  pub deep_met : limits.height < tallest ts → Says code.TooDeep (causes_met limits (Some form) s)
+  deep_met h =
+      let high : nat_le (tallest ts) limits.height ≡ false = grind (arith, nat_tests) in
+      subst (λ cs. is_cause_among cs cause.TooDeep ≡ true) (sym (by_tests ∙ ap (λ b. tests b (all_fit (are_listed []) ts) few_parts is_small) (all_within limits ts has.plain ∙ high))) (deep_test (all_fit (are_listed []) ts) few_parts is_small)
+
+  -- too many parts, whatever the heights
+  pub many_met : limits.nodes < length (with_parts_of s.parts ts) → Says code.TooMany (causes_met limits (Some form) s)
+  unfolding few_parts
+  many_met h =
+      let many : few_parts ≡ false = grind (arith, nat_tests) in
+      subst (λ cs. is_cause_among cs cause.TooMany ≡ true) (sym (by_tests ∙ ap (λ b. tests (all_fit (is_within limits) ts) (all_fit (are_listed []) ts) b is_small) many)) (count_test (all_fit (is_within limits) ts) (all_fit (are_listed []) ts) is_small)
+
+  module _ (low : tallest ts ≤ limits.height) (few : length (with_parts_of s.parts ts) ≤ limits.nodes) where
+    low_tests : (small : Bool) → is_small ≡ small → causes_met limits (Some form) s ≡ tests true true true small
     unfolding few_parts
-    many_met h =
-        let many : few_parts ≡ false = grind (arith, nat_tests) in
-        subst (λ cs. is_cause_among cs cause.TooMany ≡ true) (sym (by_tests ∙ ap (λ b. tests (is_within limits t) (are_listed [] t) b is_small) many)) (count_test (is_within limits t) (are_listed [] t) is_small)
+    low_tests small h =
+        let high : nat_le (tallest ts) limits.height ≡ true = grind (arith, nat_tests) in
+        let enough : few_parts ≡ true = grind (arith, nat_tests) in
+        by_tests ∙ (λ i. tests ((all_within limits ts has.plain ∙ high) i) (all_listed ts has.plain i) (enough i) (h i))
 
-    module _ (low : height t ≤ limits.height) (few : length (with_parts_of held (t ∷ [])) ≤ limits.nodes) where
-      low_tests : (small : Bool) → is_small ≡ small → causes_met limits (Some (Print p)) held ≡ tests true true true small
-      unfolding few_parts
-      low_tests small h =
-          let high : nat_le (height t) limits.height ≡ true = grind (arith, nat_tests) in
-          let enough : few_parts ≡ true = grind (arith, nat_tests) in
-          by_tests ∙ (λ i. tests ((within_is ∙ high) i) (plain_listed [] t plain i) (enough i) (h i))
+    -- trees that are too large
+    pub large_met : limits.size < sum_by size us → Says code.TooLarge (causes_met limits (Some form) s)
+    unfolding is_small
+    large_met h =
+        let large : is_small ≡ false = grind (arith, nat_tests) in
+        subst (λ cs. is_cause_among cs cause.TooLarge ≡ true) (sym (low_tests false large)) large_test
 
-      -- a tree that is too large
-      pub large_met : limits.size < size t → Says code.TooLarge (causes_met limits (Some (Print p)) held)
-      unfolding is_small
-      large_met h =
-          let large : is_small ≡ false = grind (arith, nat_tests) in
-          subst (λ cs. is_cause_among cs cause.TooLarge ≡ true) (sym (low_tests false large)) large_test
-
-      -- a tree that meets no cause
-      pub clear_met : size t ≤ limits.size → causes_met limits (Some (Print p)) held ≡ []
-      unfolding is_small
-      clear_met h =
-          let small : is_small ≡ true = grind (arith, nat_tests) in
-          low_tests true small ∙ clear_test
+    -- trees that meet no cause
+    pub clear_met : sum_by size us ≤ limits.size → causes_met limits (Some form) s ≡ []
+    unfolding is_small
+    clear_met h =
+        let small : is_small ≡ true = grind (arith, nat_tests) in
+        low_tests true small ∙ clear_test
 
 -- ---- forms
 
--- a printed phrase is one of the grammar
-pub print_formed : (es : List expression.Expr) (p : Phrase) → form_of_exprs es ≡ Some (Print p) → is_formed p ≡ true
-print_formed [] p e = absurd cc
-print_formed (expression.Group items ∷ es) p e = absurd cc
-print_formed (expression.Single text ∷ es) p e = by (bytes_eq (codes "print") text) es e
+-- the terms of a form are of the grammar
+abbrev pub AreFormed : Form Phrase → Type 0
+AreFormed (Let name p) = is_formed p ≡ true
+AreFormed (Print p) = is_formed p ≡ true
+AreFormed (Same p q) = (is_formed p && is_formed q) ≡ true
+AreFormed form = Unit {0}
+
+abbrev MaybeFormed : Option (Form Phrase) → Type 0
+MaybeFormed None = Unit {0}
+MaybeFormed (Some form) = AreFormed form
+
+let_formed : (es : List expression.Expr) → MaybeFormed (let_form es)
+let_formed [] = tt
+let_formed (n ∷ []) = tt
+let_formed (n ∷ e ∷ []) = by (name_in n) (phrase_of e) refl
   where
-    term : (o : Option Phrase) (e : expression.Expr) → phrase_of e ≡ o → option_map Print o ≡ Some (Print p) → is_formed p ≡ true
-    term None e f h = absurd cc
-    term (Some q) e f h = let same : q ≡ p = cc in subst (λ r. is_formed r ≡ true) same (phrases_formed e q f)
+    by : (name : Option Text) (o : Option Phrase) → phrase_of e ≡ o → MaybeFormed (and_then name (λ text. option_map (Let text) o))
+    by None o f = tt
+    by (Some text) None f = tt
+    by (Some text) (Some p) f = phrases_formed e p f
+let_formed (n ∷ e ∷ f ∷ es) = tt
 
-    read : (es : List expression.Expr) → one_term Print es ≡ Some (Print p) → is_formed p ≡ true
-    read [] h = absurd cc
-    read (e ∷ []) h = term (phrase_of e) e refl h
-    read (e ∷ f ∷ es) h = absurd cc
+printed_formed : (es : List expression.Expr) → MaybeFormed (one_term Print es)
+printed_formed [] = tt
+printed_formed (e ∷ []) = by (phrase_of e) refl
+  where
+    by : (o : Option Phrase) → phrase_of e ≡ o → MaybeFormed (option_map Print o)
+    by None f = tt
+    by (Some p) f = phrases_formed e p f
+printed_formed (e ∷ f ∷ es) = tt
 
-    by : (b : Bool) (es : List expression.Expr) → and_then (cond b (Some (record { text = codes "print"; read = one_term Print })) None) (λ (row : FormRow). row.read es) ≡ Some (Print p) → is_formed p ≡ true
-    by true es h = read es h
-    by false es h = absurd cc
+same_formed : (es : List expression.Expr) → MaybeFormed (two_terms Same es)
+same_formed [] = tt
+same_formed (d ∷ []) = tt
+same_formed (d ∷ e ∷ []) = by (phrase_of d) (phrase_of e) refl refl
+  where
+    by : (o r : Option Phrase) → phrase_of d ≡ o → phrase_of e ≡ r → MaybeFormed (and_then o (λ p. option_map (Same p) r))
+    by None r f g = tt
+    by (Some p) None f g = tt
+    by (Some p) (Some q) f g = and_from (is_formed p) (is_formed q) (phrases_formed d p f) (phrases_formed e q g)
+same_formed (d ∷ e ∷ f ∷ es) = tt
+
+maybe_formed : (es : List expression.Expr) → MaybeFormed (form_of_exprs es)
+maybe_formed [] = tt
+maybe_formed (expression.Group items ∷ es) = tt
+maybe_formed (expression.Single text ∷ es) = by (bytes_eq (codes "let") text) (bytes_eq (codes "print") text) (bytes_eq (codes "same") text)
+  where
+    by : (a b c : Bool) → MaybeFormed (and_then (cond a (Some (record { text = codes "let"; read = let_form })) (cond b (Some (record { text = codes "print"; read = one_term Print })) (cond c (Some (record { text = codes "same"; read = two_terms Same })) None))) (λ (row : FormRow). row.read es))
+    by true b c = let_formed es
+    by false true c = printed_formed es
+    by false false true = same_formed es
+    by false false false = tt
+
+pub form_formed : (es : List expression.Expr) (form : Form Phrase) → form_of_exprs es ≡ Some form → AreFormed form
+form_formed es form e = subst MaybeFormed e (maybe_formed es)
+
+-- the form of a line is that of its expressions
+pub form_is : (line : Text) (items : List code_expr.Expr) (form : Form Phrase) → expression.expressions line ≡ Some (exprs_in items) → form_of_exprs (expr_list (exprs_in items)) ≡ Some form → form_of line ≡ Some form
+form_is line items form read is = ap (λ o. and_then o (λ es. form_of_exprs (expr_list es))) read ∙ is
 
 -- ---- lines
 
--- the form declares nothing
-abbrev pub DeclaresNothing : Option (Form Phrase) → Type 0
-DeclaresNothing None = Unit {0}
-DeclaresNothing (Some Blank) = Unit {0}
-DeclaresNothing (Some (Print p)) = Unit {0}
-DeclaresNothing (Some _) = ⊥
-
--- so far the grammar has no other forms
-pub declares_nothing : (es : List expression.Expr) → DeclaresNothing (form_of_exprs es)
-declares_nothing [] = tt
-declares_nothing (expression.Group items ∷ es) = tt
-declares_nothing (expression.Single text ∷ es) = by (bytes_eq (codes "print") text) es
-  where
-    term : (o : Option Phrase) → DeclaresNothing (option_map Print o)
-    term None = tt
-    term (Some p) = tt
-
-    read : (es : List expression.Expr) → DeclaresNothing (one_term Print es)
-    read [] = tt
-    read (e ∷ []) = term (phrase_of e)
-    read (e ∷ f ∷ es) = tt
-
-    by : (b : Bool) (es : List expression.Expr) → DeclaresNothing (and_then (cond b (Some (record { text = codes "print"; read = one_term Print })) None) (λ (row : FormRow). row.read es))
-    by true es = read es
-    by false es = tt
-
-pub line_declares_nothing : (line : Text) → DeclaresNothing (form_of line)
-line_declares_nothing line = by (expression.expressions line)
-  where
-    by : (o : Option expression.Exprs) → DeclaresNothing (and_then o (λ es. form_of_exprs (expr_list es)))
-    by None = tt
-    by (Some es) = declares_nothing (expr_list es)
-
--- the text of a line, by its environment
-text_in : Environment → Option (Form Term) → Text
-text_in env None = []
-text_in env (Some form) = with_end (line_text env form)
-
-text_is : (s : State) (o : Option (Form Term)) → text_of_line s o ≡ text_in s.environment o
-unfolding text_in
-text_is s None = refl
-text_is s (Some form) = refl
-
 module _ (limits : Limits) (whole : Answer) where
-  -- the answer is that of the lines from here on, after the text so far, and the parts that the lines so far left are held
-  pub record Goes (lines : List Text) (n : ℕ) (text : Text) (h : Heap Part) : Type 0 where
-    pub state : State
-    pub names : state.environment ≡ no_names
-    pub is : whole ≡ answer_lines limits lines n state text
-    pub held : HoldsJust h state.parts
-
-  -- the causes of the line, where no name is declared
-  causes_here : (line : Text) (s : State) → s.environment ≡ no_names → causes_of limits s.environment s.parts (form_of line) ≡ causes_met limits (form_of line) s.parts
-  causes_here line s names = ap (λ env. causes_of limits env s.parts (form_of line)) names
+  -- the answer is that of the lines from here on, after the text so far, the names that are declared, and the parts that are held
+  pub record Goes (lines : List Text) (n : ℕ) (text : Text) (h : Heap Part) (ns : List Named) : Type 0 where
+    pub held : List Term
+    pub is : whole ≡ answer_lines limits lines n (left_by h ns held) text
+    pub just : HoldsJust h held
 
   -- the answer from a line on, by the line's causes
   from_line : (line : Text) (lines : List Text) (n : ℕ) (text : Text) (s : State) → List cause.Cause → Answer
   from_line line lines n text s cs = elim cs [
-    | [] ↦ answer_lines limits lines (suc n) (after_line limits s (resolved s.environment (form_of line))) (text ++ text_of_line s (resolved s.environment (form_of line)))
+    | [] ↦ answer_lines limits lines (suc n) (left_after limits (form_of line) s) (text ++ written (form_of line) s)
     | c ∷ ds ↦ Meets n (c ∷ ds)
   ]
 
-  clear_line : (line : Text) (lines : List Text) (n : ℕ) (text : Text) (s : State) → causes_of limits s.environment s.parts (form_of line) ≡ []
-      → answer_lines limits (line ∷ lines) n s text ≡ answer_lines limits lines (suc n) (after_line limits s (resolved s.environment (form_of line))) (text ++ text_of_line s (resolved s.environment (form_of line)))
+  clear_line : (line : Text) (lines : List Text) (n : ℕ) (text : Text) (s : State) → causes_met limits (form_of line) s ≡ []
+      → answer_lines limits (line ∷ lines) n s text ≡ answer_lines limits lines (suc n) (left_after limits (form_of line) s) (text ++ written (form_of line) s)
   unfolding from_line
   clear_line line lines n text s e = ap (from_line line lines n text s) e
 
-  fault_line : (line : Text) (lines : List Text) (n : ℕ) (text : Text) (s : State) (cs : List cause.Cause) (o : Option cause.Cause) → causes_of limits s.environment s.parts (form_of line) ≡ cs → IsAmong cs o
+  fault_line : (line : Text) (lines : List Text) (n : ℕ) (text : Text) (s : State) (cs : List cause.Cause) (o : Option cause.Cause) → causes_met limits (form_of line) s ≡ cs → IsAmong cs o
       → answer_lines limits (line ∷ lines) n s text ≡ Meets n cs
   unfolding from_line
   fault_line line lines n text s [] None e h = absurd h
   fault_line line lines n text s [] (Some c) e h = absurd (true≢false (sym h))
   fault_line line lines n text s (c ∷ cs) o e h = ap (from_line line lines n text s) e
 
-  -- a line whose form declares nothing leaves no name, and writes what it writes alone
-  keeps_names : (s : State) (f : Option (Form Phrase)) → s.environment ≡ no_names → DeclaresNothing f → (after_line limits s (resolved s.environment f)).environment ≡ no_names
-  keeps_names s None names h = names
-  keeps_names s (Some Blank) names h = names
-  keeps_names s (Some (Print p)) names h = by (tree_of s.environment p)
-    where
-      by : (o : Option Term) → (after_line limits s (option_map Print o)).environment ≡ no_names
-      by None = names
-      by (Some t) = names
-  keeps_names s (Some _) names h = absurd h
+  module _ (line : Text) (lines : List Text) (n : ℕ) (old new : Text) (h k : Heap Part) (ns ms : List Named) (g : Goes (line ∷ lines) n old h ns) where
+    pub next_line : AnswersForm limits (form_of line) (left_by h ns g.held) old new k ms (Ok tt) → Goes lines (suc n) new k ms
+    next_line a =
+        let left = left_after limits (form_of line) (left_by h ns g.held) in
+        let same : left ≡ left_by k ms left.parts = (λ i. record { environment = a.names_are i; parts = left.parts }) in
+        record {
+          held = left.parts;
+          is = g.is ∙ clear_line line lines n old (left_by h ns g.held) a.clear ∙ (λ i. answer_lines limits lines (suc n) (same i) (sym a.text i));
+          just = a.left;
+        }
 
-  writes_alone : (s : State) (f : Option (Form Phrase)) → s.environment ≡ no_names → text_of_line s (resolved s.environment f) ≡ written f
-  writes_alone s f names = text_is s (resolved s.environment f) ∙ ap (λ env. text_in env (resolved env f)) names ∙ sym (text_is start (resolved no_names f))
+    pub fault_met : (c : Cause) → AnswersForm limits (form_of line) (left_by h ns g.held) old new k ms (Err c) → AllowsFault whole (record { line = n; cause = c })
+    fault_met c a = ⊎_elim
+        (λ none. subst (AllowsCause whole n) (sym none) tt)
+        (says (cause_seen c))
+        a.fault
+      where
+        says : (o : Option cause.Cause) → IsAmong (causes_met limits (form_of line) (left_by h ns g.held)) o → AllowsCause whole n o
+        says None among = tt
+        says (Some d) among = subst (λ (w : Answer). Allows w (Fault n d))
+            (sym (g.is ∙ fault_line line lines n old (left_by h ns g.held) (causes_met limits (form_of line) (left_by h ns g.held)) (Some d) refl among)) (refl, among)
 
-  keeps_parts : (s : State) (f : Option (Form Phrase)) → s.environment ≡ no_names → (after_line limits s (resolved s.environment f)).parts ≡ parts_after limits f s.parts
-  keeps_parts s f names = ap (λ env. (after_line limits (record { environment = env; parts = s.parts }) (resolved env f)).parts) names
-
-  pub next_line : (line : Text) (lines : List Text) (n : ℕ) (old new : Text) (h k : Heap Part) → DeclaresNothing (form_of line) → (g : Goes (line ∷ lines) n old h) → AnswersForm limits (form_of line) g.state.parts old new k (Ok tt) → Goes lines (suc n) new k
-  next_line line lines n old new h k simple g a = record {
-    state = after_line limits g.state (resolved g.state.environment (form_of line));
-    names = keeps_names g.state (form_of line) g.names simple;
-    is = g.is ∙ clear_line line lines n old g.state (causes_here line g.state g.names ∙ a.clear)
-        ∙ ap (answer_lines limits lines (suc n) (after_line limits g.state (resolved g.state.environment (form_of line)))) (ap (λ w. old ++ w) (writes_alone g.state (form_of line) g.names) ∙ sym a.text);
-    held = subst (HoldsJust k) (sym (keeps_parts g.state (form_of line) g.names)) a.left;
-  }
-
-  pub fault_met : (line : Text) (lines : List Text) (n : ℕ) (old new : Text) (h k : Heap Part) (c : Cause) → (g : Goes (line ∷ lines) n old h) → AnswersForm limits (form_of line) g.state.parts old new k (Err c) → AllowsFault whole (record { line = n; cause = c })
-  fault_met line lines n old new h k c g a = ⊎_elim
-      (λ none. subst (AllowsCause whole n) (sym none) tt)
-      (says (cause_seen c))
-      a.fault
-    where
-      says : (o : Option cause.Cause) → IsAmong (causes_met limits (form_of line) g.state.parts) o → AllowsCause whole n o
-      says None among = tt
-      says (Some d) among = subst (λ (w : Answer). Allows w (Fault n d))
-          (sym (g.is ∙ fault_line line lines n old g.state (causes_met limits (form_of line) g.state.parts) (Some d) (causes_here line g.state g.names) among)) (refl, among)
-
-  module _ (lines : List Text) (n : ℕ) (text : Text) (h : Heap Part) (none : lines ≡ []) (g : Goes lines n text h) where
-    is_written : whole ≡ Writes text g.state
-    is_written = g.is ∙ ap (λ ls. answer_lines limits ls n g.state text) none
+  module _ (lines : List Text) (n : ℕ) (text : Text) (h : Heap Part) (ns : List Named) (none : lines ≡ []) (g : Goes lines n text h ns) where
+    is_written : whole ≡ Writes text (left_by h ns g.held)
+    is_written = g.is ∙ ap (λ ls. answer_lines limits ls n (left_by h ns g.held) text) none
 
     -- when no line is left, the text is the answer's, and so are the parts
     pub end_text : Allows whole (Lines text)
     end_text = subst (λ (w : Answer). Allows w (Lines text)) (sym is_written) refl
 
     pub end_parts : HoldsJust h (parts_left whole)
-    end_parts = subst (λ (w : Answer). HoldsJust h (parts_left w)) (sym is_written) g.held
+    end_parts = subst (λ (w : Answer). HoldsJust h (parts_left w)) (sym is_written) g.just
 
 -- ---- the start
 
@@ -298,10 +327,10 @@ module _ (limits : Limits) (script : Text) where
   by_room b e = ap (λ c. elim c [ true ↦ answer_lines (capped limits) (lines_of script) 1 start [] | false ↦ Meets 0 (cause.TooMany ∷ []) ]) e
 
   -- at the start all lines are still to be taken
-  pub at_start : (h : Heap Part) → 39 ≤ (capped limits).nodes → HoldsJust h start_parts → Goes (capped limits) (answer limits script) (lines_of script) 1 [] h
+  pub at_start : (h : Heap Part) → 39 ≤ (capped limits).nodes → HoldsJust h start_parts → Goes (capped limits) (answer limits script) (lines_of script) 1 [] h []
   at_start h room just =
       let fits : nat_le 39 (capped limits).nodes ≡ true = grind (arith, nat_tests) in
-      record { state = start; names = refl; is = by_room true fits; held = just }
+      record { held = start_parts; is = by_room true fits; just = just }
 
   -- why there is no start
   pub start_fault : (e : TermError) (c : Cause) → IsStartRefusal e → (e ≡ error.TooMany → (capped limits).nodes < 39) → c ≡ cause_of e → AllowsFault (answer limits script) (record { line = 0; cause = c })

@@ -4,6 +4,7 @@ pub mod CauseLemmas
 pub mod SortLemmas
 pub mod PlaceLemmas
 pub mod KidLemmas
+pub mod ScopeLemmas
 pub mod NameLemmas
 pub mod MisfitLemmas
 pub mod PhraseLemmas
@@ -11,5 +12,6 @@ pub mod MakeableLemmas
 pub mod PlainLemmas
 pub mod MadeLemmas
 pub mod AnswerLemmas
-pub mod PrintLemmas
+pub mod FormLemmas
+pub mod StandLemmas
 pub mod BuildLemmas

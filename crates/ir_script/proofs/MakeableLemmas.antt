@@ -1,5 +1,5 @@
--- Where the grammar, the names and the sorts have met no cause, a term can be made, if no name is declared.
-use Rattle.std.proofs.Common.{◌≡◌, Bool, true, false, ◌||◌, not, List, [], ◌∷◌, ◌++◌, map, Option, None, refl, sym, ap, inl, inr, subst, true≢false}
+-- Where the grammar, the names and the sorts have met no cause, a term can be made.
+use Rattle.std.proofs.Common.{◌≡◌, Bool, true, false, ◌||◌, not, List, [], ◌∷◌, ◌++◌, map, Option, Some, None, option_map, is_some, refl, sym, ap, ◌∙◌, inl, inr, subst, true≢false}
 use Rattle.std.specs.List.{list_all}
 use Rattle.std.proofs.lemmas.Bool.{false≢true, and_from, and_parts, or_cases, or_left, or_right}
 use Rattle.ir_laws.specs.declared.words.Word.{Word}
@@ -13,15 +13,20 @@ use Rattle.ir_laws.specs.Tree.{Text, Kind, Field, Label}
 use Rattle.ir_laws.specs.Word.{same_word, label_words}
 use Rattle.ir_laws.specs.Same.{same_sort}
 use Rattle.ir_laws.specs.Cause.{Cause, WrongSort}
-use Rattle.ir_laws.specs.Counts.{sort_of_label, sort_of_fields}
+use Rattle.ir_laws.specs.Counts.{sort_of, sort_of_label, sort_of_fields}
 use Rattle.ir_laws.specs.Label.{LabelSort, Always, ByKind, row, empty_cause}
 use Rattle.ir_laws.specs.Names.{unless, unknown_in, unknown_each}
 use Rattle.ir_laws.specs.Phrase.{Phrase, Phrases, Name, Labelled, NoPhrase, ThenPhrase}
-use Rattle.ir_laws.specs.Sorts.{Wanted, OfSorts, Members, has_some, is_sort_among, is_word_among, operand, an_argument, suits, fields_counted, kid_wanted, kids_wanted, places, misfits, each_misfits}
+use Rattle.ir_laws.specs.Sorts.{Wanted, term_misfits, OfSorts, Members, has_some, is_sort_among, is_word_among, operand, an_argument, suits, fields_counted, kid_wanted, kids_wanted, places, misfits, each_misfits}
 use Rattle.ir_laws.specs.Formed.{kid_forms, is_formed, kids_formed, is_list_formed, all_formed}
 use Rattle.ir_laws.proofs.SameParts.{word_decides, sort_decides}
-use Rattle.ir_script.specs.Causes.{no_names}
-use Rattle.ir_script.specs.Makeable.{phrase_sort, is_makeable, kids_makeable, is_list_makeable, all_makeable, is_operand}
+use Rattle.ir_core.specs.declared.handles.Part.{Part as Held}
+use Rattle.ir_laws.specs.Environment.{Environment}
+use Rattle.ir_laws.specs.Heap.{Heap, tree_of}
+use Rattle.ir_table.specs.Fits.{part_sort}
+use Rattle.ir_script.specs.Scope.{Named, part_named, env_of, AreTerms}
+use Rattle.ir_script.proofs.ScopeLemmas.{term_is, named_is_term}
+use Rattle.ir_script.specs.Makeable.{sort_named, phrase_sort, is_makeable, kids_makeable, is_list_makeable, all_makeable, is_operand}
 
 -- ---- lists of causes that are empty
 
@@ -90,86 +95,105 @@ either_sort s t u among = elim (or_cases (same_sort t s) (same_sort u s || false
   | inr other ↦ or_right (same_sort s t) (same_sort s u) (only_sort s u other)
 ]
 
--- ---- what no cause of a label says
+module _ (h : Heap Held) (ns : List Named) (terms : AreTerms h ns) where
+  abbrev env : Environment
+  env = env_of h ns
 
-label_suits : (wanted : Wanted) (l : Label Text) (b : Option (List (Kind Text))) (ps : Phrases) → misfits no_names wanted (Labelled l b ps) ≡ []
-    → suits wanted l.word (sort_of_label l) ≡ true
-label_suits wanted l b ps fits =
-    let own = both_empty _ _ (both_empty _ _ (both_empty _ _ fits).0).0 in
-    unless_empty _ WrongSort (both_empty _ _ own.0).0
+  -- ---- what no cause of a label says
 
-kids_fit : (wanted : Wanted) (l : Label Text) (b : Option (List (Kind Text))) (ps : Phrases) → misfits no_names wanted (Labelled l b ps) ≡ []
-    → each_misfits no_names (places no_names wanted l).first (places no_names wanted l).further ps ≡ []
-kids_fit wanted l b ps fits = (both_empty _ _ fits).1
+  label_suits : (wanted : Wanted) (l : Label Text) (b : Option (List (Kind Text))) (ps : Phrases) → misfits env wanted (Labelled l b ps) ≡ []
+      → suits wanted l.word (sort_of_label l) ≡ true
+  label_suits wanted l b ps fits =
+      let own = both_empty _ _ (both_empty _ _ (both_empty _ _ fits).0).0 in
+      unless_empty _ WrongSort (both_empty _ _ own.0).0
 
-kids_known : (l : Label Text) (b : Option (List (Kind Text))) (ps : Phrases) → unknown_in no_names None (Labelled l b ps) ≡ [] → unknown_each no_names None ps ≡ []
-kids_known l b ps known = (both_empty _ _ known).1
+  kids_fit : (wanted : Wanted) (l : Label Text) (b : Option (List (Kind Text))) (ps : Phrases) → misfits env wanted (Labelled l b ps) ≡ []
+      → each_misfits env (places env wanted l).first (places env wanted l).further ps ≡ []
+  kids_fit wanted l b ps fits = (both_empty _ _ fits).1
 
--- what the kids are wanted to be goes by their forms
-forms_wanted : (fields : List (Field Text)) (parts : List Part) → kids_wanted no_names fields parts ≡ map (kid_wanted no_names fields) (kid_forms parts)
-forms_wanted fields [] = refl
-forms_wanted fields (Fixed word ∷ parts) = forms_wanted fields parts
-forms_wanted fields (ForGroup ∷ parts) = forms_wanted fields parts
-forms_wanted fields (AField form ∷ parts) = forms_wanted fields parts
-forms_wanted fields (AKid form ∷ parts) = ap (λ ws. kid_wanted no_names fields form ∷ ws) (forms_wanted fields parts)
+  kids_known : (l : Label Text) (b : Option (List (Kind Text))) (ps : Phrases) → unknown_in env None (Labelled l b ps) ≡ [] → unknown_each env None ps ≡ []
+  kids_known l b ps known = (both_empty _ _ known).1
 
--- ---- phrases
+  -- what the kids are wanted to be goes by their forms
+  forms_wanted : (fields : List (Field Text)) (parts : List Part) → kids_wanted env fields parts ≡ map (kid_wanted env fields) (kid_forms parts)
+  forms_wanted fields [] = refl
+  forms_wanted fields (Fixed word ∷ parts) = forms_wanted fields parts
+  forms_wanted fields (ForGroup ∷ parts) = forms_wanted fields parts
+  forms_wanted fields (AField form ∷ parts) = forms_wanted fields parts
+  forms_wanted fields (AKid form ∷ parts) = ap (λ ws. kid_wanted env fields form ∷ ws) (forms_wanted fields parts)
 
-mutual
-  made : (sorts : List Sort) (p : Phrase) → is_formed p ≡ true → unknown_in no_names None p ≡ [] → misfits no_names (OfSorts sorts) p ≡ []
-      → (is_makeable p ≡ true) × (is_sort_among sorts (phrase_sort p) ≡ true)
-  made sorts (Name name) formed known fits = absurd (true≢false (ap has_some known))
-  made sorts (Labelled l b ps) formed known fits =
-      let label = and_parts _ _ formed in
-      let all_made = among_passes has_made_kids label_words l.word kids_are_made (and_parts _ _ label.0).0 in
-      let fields = fields_counted no_names l in
-      let kids = subst (λ ws. each_misfits no_names ws an_argument ps ≡ []) (forms_wanted fields (row l.word).parts) (kids_fit (OfSorts sorts) l b ps fits) in
-      (and_from _ _ label.0 (kids_made fields (kid_forms (row l.word).parts) ps all_made label.1 (kids_known l b ps known) kids), label_suits (OfSorts sorts) l b ps fits)
+  -- ---- phrases
 
-  kids_made : (fields : List (Field Text)) (forms : List KidForm) (ps : Phrases) → list_all is_made forms ≡ true → kids_formed forms ps ≡ true → unknown_each no_names None ps ≡ []
-      → each_misfits no_names (map (kid_wanted no_names fields) forms) an_argument ps ≡ [] → kids_makeable forms ps ≡ true
-  kids_made fields [] NoPhrase all formed known fits = refl
-  kids_made fields (OneOf sort ∷ forms) (ThenPhrase p ps) all formed known fits =
-      let f = and_parts _ _ formed in
-      let k = both_empty _ _ known in
-      let m = both_empty _ _ fits in
-      let kid = made (sort ∷ []) p f.0 k.0 m.0 in
-      and_from _ _ (and_from _ _ kid.0 (only_sort (phrase_sort p) sort kid.1)) (kids_made fields forms ps all f.1 k.1 m.1)
-  kids_made fields (TypeOrConstant ∷ forms) (ThenPhrase p ps) all formed known fits =
-      let f = and_parts _ _ formed in
-      let k = both_empty _ _ known in
-      let m = both_empty _ _ fits in
-      let kid = made (OfType ∷ OfConstant ∷ []) p f.0 k.0 m.0 in
-      and_from _ _ (and_from _ _ kid.0 (either_sort (phrase_sort p) OfType OfConstant kid.1)) (kids_made fields forms ps all f.1 k.1 m.1)
-  kids_made fields (ListOf list sort empty ∷ forms) (ThenPhrase p ps) all formed known fits =
-      let f = and_parts _ _ formed in
-      let k = both_empty _ _ known in
-      let m = both_empty _ _ fits in
-      and_from _ _ (list_made list sort (empty_cause empty) p f.0 k.0 m.0) (kids_made fields forms ps all f.1 k.1 m.1)
-  kids_made fields (ArgumentsOf count ∷ forms) (ThenPhrase p ps) all formed known fits = absurd (false≢true all)
-  kids_made fields forms ps all formed known fits = absurd (false≢true formed)
+  -- a name of a term has a sort that suits
+  name_made : (sorts : List Sort) (name : Text) → misfits env (OfSorts sorts) (Name name) ≡ []
+      → (is_some (part_named ns name) ≡ true) × (is_sort_among sorts (sort_named (part_named ns name)) ≡ true)
+  name_made sorts name fits = by (part_named ns name) (λ q is. (named_is_term h ns name q terms is).sort) (ap (term_misfits (OfSorts sorts)) (sym (term_is h ns name)) ∙ fits)
+    where
+      by : (o : Option Held) → ((q : Held) → o ≡ Some q → sort_of (tree_of h q) ≡ part_sort q) → term_misfits (OfSorts sorts) (option_map (tree_of h) o) ≡ [] → (is_some o ≡ true) × (is_sort_among sorts (sort_named o) ≡ true)
+      by None sorted fit = absurd (true≢false (ap has_some fit))
+      by (Some q) sorted fit = (refl, ap (is_sort_among sorts) (sym (sorted q refl)) ∙ unless_empty _ WrongSort fit)
 
-  list_made : (list : Word) (sort : Sort) (if_empty : Option Cause) (p : Phrase) → is_list_formed list p ≡ true → unknown_in no_names None p ≡ []
-      → misfits no_names (Members sort if_empty) p ≡ [] → is_list_makeable list sort p ≡ true
-  list_made list sort if_empty (Name name) formed known fits = absurd (false≢true formed)
-  list_made list sort if_empty (Labelled l b ps) formed known fits =
-      let label = and_parts _ _ formed in
-      and_from _ _ label.0 (members_made sort ps label.1 (kids_known l b ps known) (kids_fit (Members sort if_empty) l b ps fits))
+  mutual
+    made : (sorts : List Sort) (p : Phrase) → is_formed p ≡ true → unknown_in env None p ≡ [] → misfits env (OfSorts sorts) p ≡ []
+        → (is_makeable ns p ≡ true) × (is_sort_among sorts (phrase_sort ns p) ≡ true)
+    made sorts (Name name) formed known fits = name_made sorts name fits
+    made sorts (Labelled l b ps) formed known fits =
+        let label = and_parts _ _ formed in
+        let all_made = among_passes has_made_kids label_words l.word kids_are_made (and_parts _ _ label.0).0 in
+        let fields = fields_counted env l in
+        let kids = subst (λ ws. each_misfits env ws an_argument ps ≡ []) (forms_wanted fields (row l.word).parts) (kids_fit (OfSorts sorts) l b ps fits) in
+        (and_from _ _ label.0 (kids_made fields (kid_forms (row l.word).parts) ps all_made label.1 (kids_known l b ps known) kids), label_suits (OfSorts sorts) l b ps fits)
 
-  members_made : (sort : Sort) (ps : Phrases) → all_formed ps ≡ true → unknown_each no_names None ps ≡ [] → each_misfits no_names [] (OfSorts (sort ∷ [])) ps ≡ [] → all_makeable sort ps ≡ true
-  members_made sort NoPhrase formed known fits = refl
-  members_made sort (ThenPhrase p ps) formed known fits =
-      let f = and_parts _ _ formed in
-      let k = both_empty _ _ known in
-      let m = both_empty _ _ fits in
-      let member = made (sort ∷ []) p f.0 k.0 m.0 in
-      and_from _ _ (and_from _ _ member.0 (only_sort (phrase_sort p) sort member.1)) (members_made sort ps f.1 k.1 m.1)
+    kids_made : (fields : List (Field Text)) (forms : List KidForm) (ps : Phrases) → list_all is_made forms ≡ true → kids_formed forms ps ≡ true → unknown_each env None ps ≡ []
+        → each_misfits env (map (kid_wanted env fields) forms) an_argument ps ≡ [] → kids_makeable ns forms ps ≡ true
+    kids_made fields [] NoPhrase all formed known fits = refl
+    kids_made fields (OneOf sort ∷ forms) (ThenPhrase p ps) all formed known fits =
+        let f = and_parts _ _ formed in
+        let k = both_empty _ _ known in
+        let m = both_empty _ _ fits in
+        let kid = made (sort ∷ []) p f.0 k.0 m.0 in
+        and_from _ _ (and_from _ _ kid.0 (only_sort (phrase_sort ns p) sort kid.1)) (kids_made fields forms ps all f.1 k.1 m.1)
+    kids_made fields (TypeOrConstant ∷ forms) (ThenPhrase p ps) all formed known fits =
+        let f = and_parts _ _ formed in
+        let k = both_empty _ _ known in
+        let m = both_empty _ _ fits in
+        let kid = made (OfType ∷ OfConstant ∷ []) p f.0 k.0 m.0 in
+        and_from _ _ (and_from _ _ kid.0 (either_sort (phrase_sort ns p) OfType OfConstant kid.1)) (kids_made fields forms ps all f.1 k.1 m.1)
+    kids_made fields (ListOf list sort empty ∷ forms) (ThenPhrase p ps) all formed known fits =
+        let f = and_parts _ _ formed in
+        let k = both_empty _ _ known in
+        let m = both_empty _ _ fits in
+        and_from _ _ (list_made list sort (empty_cause empty) p f.0 k.0 m.0) (kids_made fields forms ps all f.1 k.1 m.1)
+    kids_made fields (ArgumentsOf count ∷ forms) (ThenPhrase p ps) all formed known fits = absurd (false≢true all)
+    kids_made fields forms ps all formed known fits = absurd (false≢true formed)
 
--- an operand in which no stage before the making met a cause is that of a type or a region, and can be made
-pub operand_makeable : (p : Phrase) → is_formed p ≡ true → unknown_in no_names None p ≡ [] → misfits no_names operand p ≡ [] → is_operand p ≡ true
-operand_makeable (Name name) formed known fits = absurd (true≢false (ap has_some known))
-operand_makeable (Labelled l b ps) formed known fits =
-    let word = (and_parts _ _ (and_parts _ _ formed).0).0 in
-    let test = among_passes has_operand_sort label_words l.word operands_are_made word in
-    let sorts = OfType ∷ OfRegion ∷ OfConstant ∷ OfPattern ∷ OfPredicate ∷ [] in
-    and_from _ _ (made sorts (Labelled l b ps) formed known fits).0 (operand_sort l.word (row l.word).sort (sort_of_fields l.fields) test (label_suits operand l b ps fits))
+    list_made : (list : Word) (sort : Sort) (if_empty : Option Cause) (p : Phrase) → is_list_formed list p ≡ true → unknown_in env None p ≡ []
+        → misfits env (Members sort if_empty) p ≡ [] → is_list_makeable ns list sort p ≡ true
+    list_made list sort if_empty (Name name) formed known fits = absurd (false≢true formed)
+    list_made list sort if_empty (Labelled l b ps) formed known fits =
+        let label = and_parts _ _ formed in
+        and_from _ _ label.0 (members_made sort ps label.1 (kids_known l b ps known) (kids_fit (Members sort if_empty) l b ps fits))
+
+    members_made : (sort : Sort) (ps : Phrases) → all_formed ps ≡ true → unknown_each env None ps ≡ [] → each_misfits env [] (OfSorts (sort ∷ [])) ps ≡ [] → all_makeable ns sort ps ≡ true
+    members_made sort NoPhrase formed known fits = refl
+    members_made sort (ThenPhrase p ps) formed known fits =
+        let f = and_parts _ _ formed in
+        let k = both_empty _ _ known in
+        let m = both_empty _ _ fits in
+        let member = made (sort ∷ []) p f.0 k.0 m.0 in
+        and_from _ _ (and_from _ _ member.0 (only_sort (phrase_sort ns p) sort member.1)) (members_made sort ps f.1 k.1 m.1)
+
+  -- an operand in which no stage before the making met a cause is that of a type or a region, and can be made
+  pub operand_makeable : (p : Phrase) → is_formed p ≡ true → unknown_in env None p ≡ [] → misfits env operand p ≡ [] → is_operand ns p ≡ true
+  operand_makeable (Name name) formed known fits =
+      let there = name_made (OfType ∷ OfRegion ∷ OfConstant ∷ OfPattern ∷ OfPredicate ∷ []) name fits in
+      and_from _ _ there.0 (by (part_named ns name) (λ q is. (named_is_term h ns name q terms is).kind) there.0)
+    where
+      by : (o : Option Held) → ((q : Held) → o ≡ Some q → (same_sort (part_sort q) OfType || same_sort (part_sort q) OfRegion) ≡ true) → is_some o ≡ true → (same_sort (sort_named o) OfType || same_sort (sort_named o) OfRegion) ≡ true
+      by None kinds some = absurd (false≢true some)
+      by (Some q) kinds some = kinds q refl
+  operand_makeable (Labelled l b ps) formed known fits =
+      let word = (and_parts _ _ (and_parts _ _ formed).0).0 in
+      let test = among_passes has_operand_sort label_words l.word operands_are_made word in
+      let sorts = OfType ∷ OfRegion ∷ OfConstant ∷ OfPattern ∷ OfPredicate ∷ [] in
+      and_from _ _ (made sorts (Labelled l b ps) formed known fits).0 (operand_sort l.word (row l.word).sort (sort_of_fields l.fields) test (label_suits operand l b ps fits))

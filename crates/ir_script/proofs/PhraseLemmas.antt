@@ -19,7 +19,7 @@ use Rattle.ir_laws.specs.Word.{label_words}
 use Rattle.ir_laws.specs.Numeral.{name_of}
 use Rattle.ir_laws.specs.Label.{row}
 use Rattle.ir_laws.specs.Expression.{Expr, Exprs, Single, Group, NoExpr, ThenExpr, expr_list}
-use Rattle.ir_laws.specs.Form.{Form, one_term}
+use Rattle.ir_laws.specs.Form.{Form, let_form, one_term, two_terms}
 use Rattle.ir_laws.specs.Phrase.{Phrase, Phrases, Name, Labelled, NoPhrase, ThenPhrase, Fitted, phrase_of, phrases_of, phrases_in, fit, field_in, with_field, with_kid, labelled, written_word, begins, list_phrase, cons_phrase, bare_word, bare_or_name}
 use Rattle.ir_script.specs.declared.expression.Expr as code
 use Rattle.ir_script.specs.declared.expression.Exprs as list
@@ -246,6 +246,18 @@ pub not-one-term : (make : Phrase → Form Phrase) (items : List code.Expr) → 
 not-one-term make [] n = refl
 not-one-term make (e ∷ []) n = absurd (n refl)
 not-one-term make (e ∷ f ∷ es) n = refl
+
+pub not-two-terms : (make : Phrase → Phrase → Form Phrase) (items : List code.Expr) → length items ≢ 2 → None ≡ two_terms make (expr_list (exprs_in items))
+not-two-terms make [] n = refl
+not-two-terms make (e ∷ []) n = refl
+not-two-terms make (e ∷ f ∷ []) n = absurd (n refl)
+not-two-terms make (e ∷ f ∷ g ∷ es) n = refl
+
+pub not-let : (items : List code.Expr) → length items ≢ 2 → None ≡ let_form (expr_list (exprs_in items))
+not-let [] n = refl
+not-let (e ∷ []) n = refl
+not-let (e ∷ f ∷ []) n = absurd (n refl)
+not-let (e ∷ f ∷ g ∷ es) n = refl
 
 -- ---- the rest of a list is no deeper
 

@@ -1,5 +1,5 @@
 -- What can be made so far has no variables and no binders.
-use Rattle.std.proofs.Common.{◌≡◌, ◌∙◌, Bool, true, false, ◌&&◌, ◌||◌, not, nat_le, List, [], ◌∷◌, map, Option, Some, None, inl, inr, refl, sym, ap, subst, true≢false}
+use Rattle.std.proofs.Common.{◌≡◌, ◌∙◌, Bool, true, false, ◌&&◌, ◌||◌, not, nat_le, List, [], ◌∷◌, map, Option, Some, None, is_some, inl, inr, refl, sym, ap, subst, true≢false}
 use Rattle.std.specs.Option.{option_map}
 use Rattle.std.specs.List.{list_all}
 use Rattle.std.proofs.lemmas.Bool.{and_parts, and_from, or_cases}
@@ -18,14 +18,17 @@ use Rattle.ir_laws.specs.Limits.{Limits, first_number, label_fits, variables_fit
 use Rattle.ir_laws.specs.Names.{field_forms}
 use Rattle.ir_laws.specs.Causes.{are_listed, all_are_listed}
 use Rattle.ir_laws.specs.Phrase.{Phrase, Phrases, Name, Labelled, NoPhrase, ThenPhrase, and_then, cons_if, each_of}
-use Rattle.ir_laws.specs.Environment.{tree_of, trees_of, tree_made, variable_of, parameter_of, field_in, bind_in, cons_term}
+use Rattle.ir_laws.specs.Environment.{Environment, term_named, tree_of, trees_of, tree_made, variable_of, parameter_of, field_in, bind_in, cons_term}
 use Rattle.ir_laws.specs.Sorts.{is_word_among}
 use Rattle.ir_laws.specs.Formed.{kid_forms, fields_fit, has_no_fields}
 use Rattle.ir_laws.proofs.SameParts.{word_decides}
 use Rattle.ir_script.specs.declared.phrases.Phrase as code
 use Rattle.ir_script.specs.declared.phrases.Field.{Field as CodeField}
 use Rattle.ir_script.specs.declared.phrases.Field.TheVariants as field
-use Rattle.ir_script.specs.Causes.{no_names}
+use Rattle.ir_core.specs.declared.handles.Part.{Part}
+use Rattle.ir_laws.specs.Heap.{Heap, tree_of as tree_at}
+use Rattle.ir_script.specs.Scope.{Named, part_named, env_of, AreTerms}
+use Rattle.ir_script.proofs.ScopeLemmas.{term_is, named_is_term}
 use Rattle.ir_script.specs.Makeable.{phrase_sort, is_makeable, kids_makeable, is_list_makeable, all_makeable, is_buildable}
 use Rattle.ir_script.specs.Phrases.{field_seen, phrase_seen, phrases_seen, row_seen}
 use Rattle.ir_script.specs.Plain.{is_plain_word, is_plain, are_plain, only_keywords, is_simple, are_simple}
@@ -76,96 +79,108 @@ pub plain_made : (l : Label SolverDefId) (b : Option (List (Kind SolverDefId))) 
 plain_made l b ts h = node_made (same_word l.word BoundVariable) (same_word l.word TypeParameter) (same_word l.word RegionParameter) (same_word l.word ConstantParameter) (same_word l.word CanonicalVariable)
     (variable_of l.fields) (parameter_of OfType l.fields) (parameter_of OfRegion l.fields) (parameter_of OfConstant l.fields) (Some (Node l b ts)) h
 
-fields_found : (fs : List (Field Text)) → only_keywords fs ≡ true → (gs : List (Field SolverDefId)) × (each_of (field_in no_names) fs ≡ Some gs)
-fields_found [] h = ([], refl)
-fields_found (Chosen w ∷ fs) h = let r = fields_found fs h in (Chosen w ∷ r.0, ap (cons_if (Some (Chosen w))) r.1)
-fields_found (_ ∷ fs) h = absurd (true≢false (sym h))
+module _ (h : Heap Part) (ns : List Named) (terms : AreTerms h ns) where
+  abbrev env : Environment
+  env = env_of h ns
 
--- the tree of a label over kids that have trees
-label_tree : (l : Label Text) (ps : Phrases) (ts : Terms) → is_plain_word l.word ≡ true → only_keywords l.fields ≡ true → trees_of no_names ps ≡ Some ts → are_plain ts ≡ true
-    → (t : Term) × (tree_of no_names (Labelled l None ps) ≡ Some t) × (is_plain t ≡ true)
-label_tree l ps ts word keywords kids plain =
-    let fields = fields_found l.fields keywords in (
-      Node (record { word = l.word; fields = fields.0 }) None ts,
-      (λ i. and_then (option_map (λ fs. record { word = l.word; fields = fs }) (fields.1 i)) (λ label. and_then (bind_in no_names None) (λ bind. and_then (kids i) (tree_made label bind))))
-          ∙ plain_made (record { word = l.word; fields = fields.0 }) None ts word,
-      and_from (is_plain_word l.word) (are_plain ts) word plain,
-    )
+  fields_found : (fs : List (Field Text)) → only_keywords fs ≡ true → (gs : List (Field SolverDefId)) × (each_of (field_in env) fs ≡ Some gs)
+  fields_found [] h = ([], refl)
+  fields_found (Chosen w ∷ fs) h = let r = fields_found fs h in (Chosen w ∷ r.0, ap (cons_if (Some (Chosen w))) r.1)
+  fields_found (_ ∷ fs) h = absurd (true≢false (sym h))
 
--- ---- what can be made has a plain tree
+  -- the tree of a label over kids that have trees
+  label_tree : (l : Label Text) (ps : Phrases) (ts : Terms) → is_plain_word l.word ≡ true → only_keywords l.fields ≡ true → trees_of env ps ≡ Some ts → are_plain ts ≡ true
+      → (t : Term) × (tree_of env (Labelled l None ps) ≡ Some t) × (is_plain t ≡ true)
+  label_tree l ps ts word keywords kids plain =
+      let fields = fields_found l.fields keywords in (
+        Node (record { word = l.word; fields = fields.0 }) None ts,
+        (λ i. and_then (option_map (λ fs. record { word = l.word; fields = fs }) (fields.1 i)) (λ label. and_then (bind_in env None) (λ bind. and_then (kids i) (tree_made label bind))))
+            ∙ plain_made (record { word = l.word; fields = fields.0 }) None ts word,
+        and_from (is_plain_word l.word) (are_plain ts) word plain,
+      )
 
-abbrev pub Planted : Phrase → Type 0
-Planted p = (t : Term) × (tree_of no_names p ≡ Some t) × (is_plain t ≡ true)
+  -- ---- what can be made has a plain tree
 
-abbrev pub AllPlanted : Phrases → Type 0
-AllPlanted ps = (ts : Terms) × (trees_of no_names ps ≡ Some ts) × (are_plain ts ≡ true)
+  abbrev pub Planted : Phrase → Type 0
+  Planted p = (t : Term) × (tree_of env p ≡ Some t) × (is_plain t ≡ true)
 
-one_more : (p : Phrase) (ps : Phrases) → Planted p → AllPlanted ps → AllPlanted (ThenPhrase p ps)
-one_more p ps one rest = (And one.0 rest.0, (λ i. cons_term (one.1 i) (rest.1 i)), and_from (is_plain one.0) (are_plain rest.0) one.2 rest.2)
+  abbrev pub AllPlanted : Phrases → Type 0
+  AllPlanted ps = (ts : Terms) × (trees_of env ps ≡ Some ts) × (are_plain ts ≡ true)
 
-mutual
-  pub planted : (p : Phrase) → is_makeable p ≡ true → is_simple p ≡ true → Planted p
-  planted (Name name) makeable simple = absurd (true≢false (sym makeable))
-  planted (Labelled l (Some b) ps) makeable simple = absurd (true≢false (sym simple))
-  planted (Labelled l None ps) makeable simple =
-      let here = and_parts (is_word_among label_words l.word && fields_fit (field_forms (row l.word).parts) l.fields) (kids_makeable (kid_forms (row l.word).parts) ps) makeable in
-      let word = (and_parts (is_word_among label_words l.word) (fields_fit (field_forms (row l.word).parts) l.fields) here.0).0 in
-      let simples = and_parts (only_keywords l.fields) (are_simple ps) simple in
-      let kids = kids_planted (kid_forms (row l.word).parts) ps (among_passes has_plain_kids label_words l.word kids_are_plain word) here.1 simples.1 in
-      label_tree l ps kids.0 (among_passes is_plain_word label_words l.word words_are_plain word) simples.0 kids.1 kids.2
+  -- a name of a part stands for its tree
+  name_planted : (name : Text) → is_some (part_named ns name) ≡ true → Planted (Name name)
+  name_planted name some = by (part_named ns name) (λ q is. (named_is_term h ns name q terms is).plain) (term_is h ns name) some
+    where
+      by : (o : Option Part) → ((q : Part) → o ≡ Some q → is_plain (tree_at h q) ≡ true) → term_named env name ≡ option_map (tree_at h) o → is_some o ≡ true → Planted (Name name)
+      by None plain is some = absurd (true≢false (sym some))
+      by (Some q) plain is some = (tree_at h q, is, plain q refl)
 
-  kids_planted : (forms : List KidForm) (ps : Phrases) → list_all wants_plain forms ≡ true → kids_makeable forms ps ≡ true → are_simple ps ≡ true → AllPlanted ps
-  kids_planted [] NoPhrase plain makeable simple = (End, refl, refl)
-  kids_planted [] (ThenPhrase p ps) plain makeable simple = absurd (true≢false (sym makeable))
-  kids_planted (OneOf sort ∷ forms) NoPhrase plain makeable simple = absurd (true≢false (sym makeable))
-  kids_planted (OneOf sort ∷ forms) (ThenPhrase p ps) plain makeable simple =
-      let m = and_parts (is_makeable p && same_sort (phrase_sort p) sort) (kids_makeable forms ps) makeable in
-      let s = and_parts (is_simple p) (are_simple ps) simple in
-      one_more p ps (planted p (and_parts (is_makeable p) (same_sort (phrase_sort p) sort) m.0).0 s.0) (kids_planted forms ps plain m.1 s.1)
-  kids_planted (TypeOrConstant ∷ forms) NoPhrase plain makeable simple = absurd (true≢false (sym makeable))
-  kids_planted (TypeOrConstant ∷ forms) (ThenPhrase p ps) plain makeable simple =
-      let m = and_parts (is_makeable p && (same_sort (phrase_sort p) OfType || same_sort (phrase_sort p) OfConstant)) (kids_makeable forms ps) makeable in
-      let s = and_parts (is_simple p) (are_simple ps) simple in
-      one_more p ps (planted p (and_parts (is_makeable p) (same_sort (phrase_sort p) OfType || same_sort (phrase_sort p) OfConstant) m.0).0 s.0) (kids_planted forms ps plain m.1 s.1)
-  kids_planted (ListOf list sort empty ∷ forms) NoPhrase plain makeable simple = absurd (true≢false (sym makeable))
-  kids_planted (ListOf list sort empty ∷ forms) (ThenPhrase p ps) plain makeable simple =
-      let w = and_parts (is_plain_word list) (list_all wants_plain forms) plain in
-      let m = and_parts (is_list_makeable list sort p) (kids_makeable forms ps) makeable in
-      let s = and_parts (is_simple p) (are_simple ps) simple in
-      one_more p ps (list_planted list sort p w.0 m.0 s.0) (kids_planted forms ps w.1 m.1 s.1)
-  kids_planted (ArgumentsOf count ∷ forms) NoPhrase plain makeable simple = absurd (true≢false (sym makeable))
-  kids_planted (ArgumentsOf count ∷ forms) (ThenPhrase p ps) plain makeable simple = absurd (true≢false (sym makeable))
+  one_more : (p : Phrase) (ps : Phrases) → Planted p → AllPlanted ps → AllPlanted (ThenPhrase p ps)
+  one_more p ps one rest = (And one.0 rest.0, (λ i. cons_term (one.1 i) (rest.1 i)), and_from (is_plain one.0) (are_plain rest.0) one.2 rest.2)
 
-  list_planted : (list : Word) (sort : Sort) (p : Phrase) → is_plain_word list ≡ true → is_list_makeable list sort p ≡ true → is_simple p ≡ true → Planted p
-  list_planted list sort (Name name) plain makeable simple = absurd (true≢false (sym makeable))
-  list_planted list sort (Labelled l (Some b) ps) plain makeable simple = absurd (true≢false (sym simple))
-  list_planted list sort (Labelled l None ps) plain makeable simple =
-      let m = and_parts (same_word l.word list && has_no_fields l.fields) (all_makeable sort ps) makeable in
-      let w = (and_parts (same_word l.word list) (has_no_fields l.fields) m.0).0 in
-      let s = and_parts (only_keywords l.fields) (are_simple ps) simple in
-      let kids = all_planted sort ps m.1 s.1 in
-      label_tree l ps kids.0 (subst (λ v. is_plain_word v ≡ true) (sym ((word_decides l.word list).0 w)) plain) s.0 kids.1 kids.2
+  mutual
+    pub planted : (p : Phrase) → is_makeable ns p ≡ true → is_simple p ≡ true → Planted p
+    planted (Name name) makeable simple = name_planted name makeable
+    planted (Labelled l (Some b) ps) makeable simple = absurd (true≢false (sym simple))
+    planted (Labelled l None ps) makeable simple =
+        let here = and_parts (is_word_among label_words l.word && fields_fit (field_forms (row l.word).parts) l.fields) (kids_makeable ns (kid_forms (row l.word).parts) ps) makeable in
+        let word = (and_parts (is_word_among label_words l.word) (fields_fit (field_forms (row l.word).parts) l.fields) here.0).0 in
+        let simples = and_parts (only_keywords l.fields) (are_simple ps) simple in
+        let kids = kids_planted (kid_forms (row l.word).parts) ps (among_passes has_plain_kids label_words l.word kids_are_plain word) here.1 simples.1 in
+        label_tree l ps kids.0 (among_passes is_plain_word label_words l.word words_are_plain word) simples.0 kids.1 kids.2
 
-  all_planted : (sort : Sort) (ps : Phrases) → all_makeable sort ps ≡ true → are_simple ps ≡ true → AllPlanted ps
-  all_planted sort NoPhrase makeable simple = (End, refl, refl)
-  all_planted sort (ThenPhrase p ps) makeable simple =
-      let m = and_parts (is_makeable p && same_sort (phrase_sort p) sort) (all_makeable sort ps) makeable in
-      let s = and_parts (is_simple p) (are_simple ps) simple in
-      one_more p ps (planted p (and_parts (is_makeable p) (same_sort (phrase_sort p) sort) m.0).0 s.0) (all_planted sort ps m.1 s.1)
+    kids_planted : (forms : List KidForm) (ps : Phrases) → list_all wants_plain forms ≡ true → kids_makeable ns forms ps ≡ true → are_simple ps ≡ true → AllPlanted ps
+    kids_planted [] NoPhrase plain makeable simple = (End, refl, refl)
+    kids_planted [] (ThenPhrase p ps) plain makeable simple = absurd (true≢false (sym makeable))
+    kids_planted (OneOf sort ∷ forms) NoPhrase plain makeable simple = absurd (true≢false (sym makeable))
+    kids_planted (OneOf sort ∷ forms) (ThenPhrase p ps) plain makeable simple =
+        let m = and_parts (is_makeable ns p && same_sort (phrase_sort ns p) sort) (kids_makeable ns forms ps) makeable in
+        let s = and_parts (is_simple p) (are_simple ps) simple in
+        one_more p ps (planted p (and_parts (is_makeable ns p) (same_sort (phrase_sort ns p) sort) m.0).0 s.0) (kids_planted forms ps plain m.1 s.1)
+    kids_planted (TypeOrConstant ∷ forms) NoPhrase plain makeable simple = absurd (true≢false (sym makeable))
+    kids_planted (TypeOrConstant ∷ forms) (ThenPhrase p ps) plain makeable simple =
+        let m = and_parts (is_makeable ns p && (same_sort (phrase_sort ns p) OfType || same_sort (phrase_sort ns p) OfConstant)) (kids_makeable ns forms ps) makeable in
+        let s = and_parts (is_simple p) (are_simple ps) simple in
+        one_more p ps (planted p (and_parts (is_makeable ns p) (same_sort (phrase_sort ns p) OfType || same_sort (phrase_sort ns p) OfConstant) m.0).0 s.0) (kids_planted forms ps plain m.1 s.1)
+    kids_planted (ListOf list sort empty ∷ forms) NoPhrase plain makeable simple = absurd (true≢false (sym makeable))
+    kids_planted (ListOf list sort empty ∷ forms) (ThenPhrase p ps) plain makeable simple =
+        let w = and_parts (is_plain_word list) (list_all wants_plain forms) plain in
+        let m = and_parts (is_list_makeable ns list sort p) (kids_makeable ns forms ps) makeable in
+        let s = and_parts (is_simple p) (are_simple ps) simple in
+        one_more p ps (list_planted list sort p w.0 m.0 s.0) (kids_planted forms ps w.1 m.1 s.1)
+    kids_planted (ArgumentsOf count ∷ forms) NoPhrase plain makeable simple = absurd (true≢false (sym makeable))
+    kids_planted (ArgumentsOf count ∷ forms) (ThenPhrase p ps) plain makeable simple = absurd (true≢false (sym makeable))
 
--- ---- what can be built has one, too
+    list_planted : (list : Word) (sort : Sort) (p : Phrase) → is_plain_word list ≡ true → is_list_makeable ns list sort p ≡ true → is_simple p ≡ true → Planted p
+    list_planted list sort (Name name) plain makeable simple = absurd (true≢false (sym makeable))
+    list_planted list sort (Labelled l (Some b) ps) plain makeable simple = absurd (true≢false (sym simple))
+    list_planted list sort (Labelled l None ps) plain makeable simple =
+        let m = and_parts (same_word l.word list && has_no_fields l.fields) (all_makeable ns sort ps) makeable in
+        let w = (and_parts (same_word l.word list) (has_no_fields l.fields) m.0).0 in
+        let s = and_parts (only_keywords l.fields) (are_simple ps) simple in
+        let kids = all_planted sort ps m.1 s.1 in
+        label_tree l ps kids.0 (subst (λ v. is_plain_word v ≡ true) (sym ((word_decides l.word list).0 w)) plain) s.0 kids.1 kids.2
 
-pub built_planted : (p : code.Phrase) → is_buildable (phrase_seen p) ≡ true → Planted (phrase_seen p)
-built_planted p h = elim (or_cases (is_makeable (phrase_seen p)) (is_list_makeable TypeList OfType (phrase_seen p)) h) [
-  | inl term ↦ planted (phrase_seen p) term (seen_simple p)
-  | inr list ↦ list_planted TypeList OfType (phrase_seen p) refl list (seen_simple p)
-]
+    all_planted : (sort : Sort) (ps : Phrases) → all_makeable ns sort ps ≡ true → are_simple ps ≡ true → AllPlanted ps
+    all_planted sort NoPhrase makeable simple = (End, refl, refl)
+    all_planted sort (ThenPhrase p ps) makeable simple =
+        let m = and_parts (is_makeable ns p && same_sort (phrase_sort ns p) sort) (all_makeable ns sort ps) makeable in
+        let s = and_parts (is_simple p) (are_simple ps) simple in
+        one_more p ps (planted p (and_parts (is_makeable ns p) (same_sort (phrase_sort ns p) sort) m.0).0 s.0) (all_planted sort ps m.1 s.1)
 
-pub all_built_planted : (ps : List code.Phrase) → list_all (λ p. is_buildable (phrase_seen p)) ps ≡ true → AllPlanted (phrases_seen ps)
-all_built_planted [] h = (End, refl, refl)
-all_built_planted (p ∷ ps) h =
-    let both = and_parts (is_buildable (phrase_seen p)) (list_all (λ q. is_buildable (phrase_seen q)) ps) h in
-    one_more (phrase_seen p) (phrases_seen ps) (built_planted p both.0) (all_built_planted ps both.1)
+  -- ---- what can be built has one, too
+
+  pub built_planted : (p : code.Phrase) → is_buildable ns (phrase_seen p) ≡ true → Planted (phrase_seen p)
+  built_planted p h = elim (or_cases (is_makeable ns (phrase_seen p)) (is_list_makeable ns TypeList OfType (phrase_seen p)) h) [
+    | inl term ↦ planted (phrase_seen p) term (seen_simple p)
+    | inr list ↦ list_planted TypeList OfType (phrase_seen p) refl list (seen_simple p)
+  ]
+
+  pub all_built_planted : (ps : List code.Phrase) → list_all (λ p. is_buildable ns (phrase_seen p)) ps ≡ true → AllPlanted (phrases_seen ps)
+  all_built_planted [] h = (End, refl, refl)
+  all_built_planted (p ∷ ps) h =
+      let both = and_parts (is_buildable ns (phrase_seen p)) (list_all (λ q. is_buildable ns (phrase_seen q)) ps) h in
+      one_more (phrase_seen p) (phrases_seen ps) (built_planted p both.0) (all_built_planted ps both.1)
 
 -- ---- what a plain tree meets
 

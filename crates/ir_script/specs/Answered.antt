@@ -1,7 +1,7 @@
 -- What a contract says of an answer.
-use Rattle.std.specs.Prelude.{◌≡◌, ℕ, ◌⊎◌, List, [], ◌++◌, Option, None, Some, Result, OnOk, IfErr}
+use Rattle.std.specs.Prelude.{◌≡◌, ℕ, ◌⊎◌, List, [], ◌∷◌, ◌++◌, Option, None, Some, Result, OnOk, IfErr, codes}
 use Rattle.ir_core.specs.declared.handles.Part.{Part}
-use Rattle.ir_laws.specs.Answer.{Answer, Writes, Meets, Allows, Fault, start, after_line, resolved, text_of_line}
+use Rattle.ir_laws.specs.Answer.{Answer, State, Writes, Meets, Allows, Fault, after_line, resolved, text_of_line}
 use Rattle.ir_laws.specs.Cause as cause
 use Rattle.ir_laws.specs.Causes.{causes_of}
 use Rattle.ir_laws.specs.Form.{Form}
@@ -12,26 +12,36 @@ use Rattle.ir_laws.specs.Phrase.{Phrase}
 use Rattle.ir_laws.specs.Tree.{Text, Term}
 use Rattle.ir_script.specs.declared.causes.Cause.{Cause}
 use Rattle.ir_script.specs.declared.causes.ScriptError.{ScriptError}
-use Rattle.ir_script.specs.Causes.{no_names, cause_seen, Says}
+use Rattle.ir_script.specs.Causes.{cause_seen, Says}
+use Rattle.ir_script.specs.Scope.{Named, env_of}
 
--- the causes that a line of the form meets, after lines that left these parts
-abbrev pub causes_met : Limits → Option (Form Phrase) → List Term → List cause.Cause
-causes_met limits form held = causes_of limits no_names held form
+-- what the lines so far leave: the names over a heap, and the parts that are held
+abbrev pub left_by : Heap Part → List Named → List Term → State
+left_by h ns held = record { environment = env_of h ns; parts = held }
 
--- the line that a form writes
-abbrev pub written : Option (Form Phrase) → Text
-written form = text_of_line start (resolved no_names form)
+-- the causes that a line of the form meets, after lines that left this
+abbrev pub causes_met : Limits → Option (Form Phrase) → State → List cause.Cause
+causes_met limits form s = causes_of limits s.environment s.parts form
 
--- the parts that a line of the form leaves, after lines that left these
-abbrev pub parts_after : Limits → Option (Form Phrase) → List Term → List Term
-parts_after limits form held = (after_line limits (record { environment = no_names; parts = held }) (resolved no_names form)).parts
+-- the line that the form writes
+abbrev pub written : Option (Form Phrase) → State → Text
+written form s = text_of_line s (resolved s.environment form)
 
--- What the answering of one form says, where just these parts were held. Want of memory has no clause
-pub record AnswersForm (limits : Limits) (form : Option (Form Phrase)) (held : List Term) (old new : Text) (now : Heap Part) (r : Result Unit Cause) : Type 0 where
-  pub clear : OnOk r (causes_met limits form held ≡ [])
-  pub text : OnOk r (new ≡ old ++ written form)
-  pub left : OnOk r (HoldsJust now (parts_after limits form held))
-  pub fault : IfErr r (λ c. (cause_seen c ≡ None) ⊎ Says c (causes_met limits form held))
+-- what the line leaves
+abbrev pub left_after : Limits → Option (Form Phrase) → State → State
+left_after limits form s = after_line limits s (resolved s.environment form)
+
+-- What the answering of one form says, after lines that left this. Want of memory has no clause
+pub record AnswersForm (limits : Limits) (form : Option (Form Phrase)) (s : State) (old new : Text) (now : Heap Part) (names : List Named) (r : Result Unit Cause) : Type 0 where
+  pub clear : OnOk r (causes_met limits form s ≡ [])
+  pub text : OnOk r (new ≡ old ++ written form s)
+  pub left : OnOk r (HoldsJust now (left_after limits form s).parts)
+  pub names_are : OnOk r ((left_after limits form s).environment ≡ env_of now names)
+  pub fault : IfErr r (λ c. (cause_seen c ≡ None) ⊎ Says c (causes_met limits form s))
+
+-- the line that says yes exactly where this holds
+abbrev pub YesOrNo : Type 0 → Text → Type 0
+YesOrNo A text = (A × (text ≡ codes "yes" ++ 10 ∷ [])) ⊎ ((A → ⊥) × (text ≡ codes "no" ++ 10 ∷ []))
 
 -- the parts that are held when the script is answered
 abbrev pub parts_left : Answer → List Term

@@ -7,41 +7,41 @@ use Rattle.ir_core.specs.declared.handles.Part.{Part}
 use Rattle.ir_laws.specs.declared.labels.Sort.TheVariants.{OfType}
 use Rattle.ir_laws.specs.declared.words.Word.TheVariants.{TypeList}
 use Rattle.ir_laws.specs.Environment as environment
-use Rattle.ir_laws.specs.Environment.{trees_of}
+use Rattle.ir_laws.specs.Environment.{Environment, trees_of}
 use Rattle.ir_laws.specs.Heap.{Each, IsLive, forest, tree_of}
 use Rattle.ir_laws.specs.Parts.{parts, all_parts}
 use Rattle.ir_laws.specs.Phrase.{Phrase, Phrases, NoPhrase, ThenPhrase}
 use Rattle.ir_laws.specs.Tree.{Term, Terms}
 use Rattle.ir_table.specs.Fits.{part_sort, is_list_of}
 use Rattle.ir_table.specs.State.{State, Makes}
-use Rattle.ir_script.specs.Causes.{no_names}
+use Rattle.ir_script.specs.Scope.{Named}
 use Rattle.ir_script.specs.Makeable.{phrase_sort, is_list_makeable}
 
 -- the part is of the phrase's sort, and a list of types where the phrase is
-pub record Suits (p : Phrase) (q : Part) : Type 0 where
-  pub sort : part_sort q ≡ phrase_sort p
-  pub types : is_list_makeable TypeList OfType p ≡ true → is_list_of TypeList q ≡ true
+pub record Suits (ns : List Named) (p : Phrase) (q : Part) : Type 0 where
+  pub sort : part_sort q ≡ phrase_sort ns p
+  pub types : is_list_makeable ns TypeList OfType p ≡ true → is_list_of TypeList q ≡ true
 
 -- each part suits its phrase
-abbrev pub AllSuit : Phrases → List Part → Type 0
-AllSuit NoPhrase [] = Unit {0}
-AllSuit (ThenPhrase p ps) (q ∷ qs) = Suits p q × AllSuit ps qs
-AllSuit ps qs = ⊥
+abbrev pub AllSuit : List Named → Phrases → List Part → Type 0
+AllSuit ns NoPhrase [] = Unit {0}
+AllSuit ns (ThenPhrase p ps) (q ∷ qs) = Suits ns p q × AllSuit ns ps qs
+AllSuit ns ps qs = ⊥
 
--- The phrase has a tree, and the parts of this are made. On Ok the part is live, stands for the tree and suits the phrase
-pub record Builds (old new : State) (p : Phrase) (r : Result Part TermError) : Type 0 where
+-- The phrase has a tree where the names mean this, and the parts of the tree are made. On Ok the part is live, stands for the tree and suits the phrase
+pub record Builds (env : Environment) (ns : List Named) (old new : State) (p : Phrase) (r : Result Part TermError) : Type 0 where
   pub made : Term
-  pub tree : environment.tree_of no_names p ≡ Some made
+  pub tree : environment.tree_of env p ≡ Some made
   pub makes : Makes old new (parts made) r
   pub live : IfOk r (λ q. IsLive new.heap q)
   pub stands : IfOk r (λ q. tree_of new.heap q ≡ made)
-  pub suits : IfOk r (Suits p)
+  pub suits : IfOk r (Suits ns p)
 
 -- the same of several phrases
-pub record BuildsAll (old new : State) (ps : Phrases) (r : Result (Vec Part Global) TermError) : Type 0 where
+pub record BuildsAll (env : Environment) (ns : List Named) (old new : State) (ps : Phrases) (r : Result (Vec Part Global) TermError) : Type 0 where
   pub made : Terms
-  pub trees : trees_of no_names ps ≡ Some made
+  pub trees : trees_of env ps ≡ Some made
   pub makes : Makes old new (all_parts made) r
   pub live : IfOk r (λ qs. Each (IsLive new.heap) qs.items)
   pub stand : IfOk r (λ qs. forest (tree_of new.heap) qs.items ≡ made)
-  pub suit : IfOk r (λ qs. AllSuit ps qs.items)
+  pub suit : IfOk r (λ qs. AllSuit ns ps qs.items)

@@ -8,3 +8,4 @@ pub mod Makeable
 pub mod Built
 pub mod Answered
 pub mod Plain
+pub mod Scope

@@ -1,5 +1,6 @@
--- Phrases of which a term can be made where no name is declared: what is left when the grammar, the names and the sorts have met no cause.
-use Rattle.std.specs.Prelude.{Bool, true, false, ◌&&◌, ◌||◌, List, [], ◌∷◌}
+-- Phrases of which a term can be made: what is left when the grammar, the names and the sorts have met no cause.
+use Rattle.std.specs.Prelude.{Bool, true, false, ◌&&◌, ◌||◌, List, [], ◌∷◌, Option, Some, None, is_some}
+use Rattle.ir_core.specs.declared.handles.Part.{Part}
 use Rattle.ir_laws.specs.declared.words.Word.{Word}
 use Rattle.ir_laws.specs.declared.words.Word.TheVariants.{TypeList}
 use Rattle.ir_laws.specs.declared.labels.Sort.{Sort}
@@ -13,38 +14,46 @@ use Rattle.ir_laws.specs.Counts.{sort_of_label}
 use Rattle.ir_laws.specs.Names.{field_forms}
 use Rattle.ir_laws.specs.Sorts.{is_word_among}
 use Rattle.ir_laws.specs.Formed.{kid_forms, fields_fit, has_no_fields}
+use Rattle.ir_table.specs.Fits.{part_sort}
+use Rattle.ir_script.specs.Scope.{Named, part_named}
 use Rattle.ir_laws.specs.Phrase.{Phrase, Phrases, Name, Labelled, NoPhrase, ThenPhrase}
 
-abbrev pub phrase_sort : Phrase → Sort
-phrase_sort (Name name) = OfList
-phrase_sort (Labelled l b ps) = sort_of_label l
+-- the sort of a name's part
+abbrev pub sort_named : Option Part → Sort
+sort_named (Some q) = part_sort q
+sort_named None = OfList
 
--- A label that is built, with its row's fields, over kids that fit its row: of the wanted sort, or a list of that word with members of the wanted sort
-abbrev mutual
-  pub is_makeable : Phrase → Bool
-  is_makeable (Name name) = false
-  is_makeable (Labelled l b ps) = is_word_among label_words l.word && fields_fit (field_forms (row l.word).parts) l.fields && kids_makeable (kid_forms (row l.word).parts) ps
+module _ (ns : List Named) where
+  abbrev pub phrase_sort : Phrase → Sort
+  phrase_sort (Name name) = sort_named (part_named ns name)
+  phrase_sort (Labelled l b ps) = sort_of_label l
 
-  pub kids_makeable : List KidForm → Phrases → Bool
-  kids_makeable [] NoPhrase = true
-  kids_makeable (OneOf sort ∷ forms) (ThenPhrase p ps) = is_makeable p && same_sort (phrase_sort p) sort && kids_makeable forms ps
-  kids_makeable (TypeOrConstant ∷ forms) (ThenPhrase p ps) = is_makeable p && (same_sort (phrase_sort p) OfType || same_sort (phrase_sort p) OfConstant) && kids_makeable forms ps
-  kids_makeable (ListOf list sort empty ∷ forms) (ThenPhrase p ps) = is_list_makeable list sort p && kids_makeable forms ps
-  kids_makeable (ArgumentsOf count ∷ forms) (ThenPhrase p ps) = false
-  kids_makeable forms ps = false
+  -- A name of a part; or a label that is built, with its row's fields, over kids that fit its row: of the wanted sort, or a list of that word with members of the wanted sort
+  abbrev mutual
+    pub is_makeable : Phrase → Bool
+    is_makeable (Name name) = is_some (part_named ns name)
+    is_makeable (Labelled l b ps) = is_word_among label_words l.word && fields_fit (field_forms (row l.word).parts) l.fields && kids_makeable (kid_forms (row l.word).parts) ps
 
-  pub is_list_makeable : Word → Sort → Phrase → Bool
-  is_list_makeable list sort (Name name) = false
-  is_list_makeable list sort (Labelled l b ps) = same_word l.word list && has_no_fields l.fields && all_makeable sort ps
+    pub kids_makeable : List KidForm → Phrases → Bool
+    kids_makeable [] NoPhrase = true
+    kids_makeable (OneOf sort ∷ forms) (ThenPhrase p ps) = is_makeable p && same_sort (phrase_sort p) sort && kids_makeable forms ps
+    kids_makeable (TypeOrConstant ∷ forms) (ThenPhrase p ps) = is_makeable p && (same_sort (phrase_sort p) OfType || same_sort (phrase_sort p) OfConstant) && kids_makeable forms ps
+    kids_makeable (ListOf list sort empty ∷ forms) (ThenPhrase p ps) = is_list_makeable list sort p && kids_makeable forms ps
+    kids_makeable (ArgumentsOf count ∷ forms) (ThenPhrase p ps) = false
+    kids_makeable forms ps = false
 
-  pub all_makeable : Sort → Phrases → Bool
-  all_makeable sort NoPhrase = true
-  all_makeable sort (ThenPhrase p ps) = is_makeable p && same_sort (phrase_sort p) sort && all_makeable sort ps
+    pub is_list_makeable : Word → Sort → Phrase → Bool
+    is_list_makeable list sort (Name name) = false
+    is_list_makeable list sort (Labelled l b ps) = same_word l.word list && has_no_fields l.fields && all_makeable sort ps
 
--- a term, or a list of types
-abbrev pub is_buildable : Phrase → Bool
-is_buildable p = is_makeable p || is_list_makeable TypeList OfType p
+    pub all_makeable : Sort → Phrases → Bool
+    all_makeable sort NoPhrase = true
+    all_makeable sort (ThenPhrase p ps) = is_makeable p && same_sort (phrase_sort p) sort && all_makeable sort ps
 
--- what an operand of `print` is when no stage before the making met a cause
-abbrev pub is_operand : Phrase → Bool
-is_operand p = is_makeable p && (same_sort (phrase_sort p) OfType || same_sort (phrase_sort p) OfRegion)
+  -- a term, or a list of types
+  abbrev pub is_buildable : Phrase → Bool
+  is_buildable p = is_makeable p || is_list_makeable TypeList OfType p
+
+  -- what an operand is when no stage before the making met a cause
+  abbrev pub is_operand : Phrase → Bool
+  is_operand p = is_makeable p && (same_sort (phrase_sort p) OfType || same_sort (phrase_sort p) OfRegion)

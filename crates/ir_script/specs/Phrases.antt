@@ -40,7 +40,9 @@ phrases_seen (p ∷ ps) = ThenPhrase (phrase_seen p) (phrases_seen ps)
 
 abbrev pub form_seen : Form → form.Form Phrase
 form_seen code_form.Blank = form.Blank
+form_seen (code_form.Let name p) = form.Let name (phrase_seen p)
 form_seen (code_form.Print p) = form.Print (phrase_seen p)
+form_seen (code_form.Same p q) = form.Same (phrase_seen p) (phrase_seen q)
 
 -- ---- from expressions to phrases
 

@@ -1,19 +1,18 @@
 //! What a script answers.
-ghost use Rattle.ir_core.specs.declared.handles.Part.{Part as PartSeen};
 ghost use Rattle.ir_laws.specs.Answer.{IsValid, Allows, Lines, answer as answer_of};
-ghost use Rattle.ir_laws.specs.Form.{Print, form_of};
+ghost use Rattle.ir_laws.specs.Form.{Let, Print, Same, form_of};
 ghost use Rattle.ir_laws.specs.Formed.{is_formed};
 ghost use Rattle.ir_laws.specs.Held.{HoldsJust};
 ghost use Rattle.ir_laws.specs.Limits.{capped};
 ghost use Rattle.ir_laws.specs.Tree.{Term};
-ghost use Rattle.ir_script.specs.Answered.{AllowsFault, AnswersForm, parts_left};
-ghost use Rattle.ir_script.specs.Makeable.{is_operand};
+ghost use Rattle.ir_script.specs.Answered.{AllowsFault, AnswersForm, YesOrNo, left_by, parts_left};
 ghost use Rattle.ir_script.specs.Phrases.{phrase_seen};
+ghost use Rattle.ir_script.specs.Scope.{AreTerms, names_in};
 ghost use Rattle.ir_table.specs.Fits.{part_sort};
 ghost use Rattle.ir_table.specs.Interner.{heap, state};
 ghost use Rattle.ir_table.specs.Limits.{limits_seen};
 ghost use Rattle.ir_table.specs.Spelled.{part_of};
-ghost use Rattle.std.specs.Prelude.{◌≡◌, ◌≢◌, ◌^◌, ◌<◌, true, Some, List, length, IfErr, IfOk};
+ghost use Rattle.std.specs.Prelude.{◌≡◌, ◌≢◌, ◌&&◌, ℕ, true, Some, List, IfErr, IfOk, OnOk};
 ghost use Rattle.ir_laws.specs.declared.labels.Sort.TheVariants.{OfList};
 
 use crate::build::build;
@@ -23,7 +22,8 @@ use crate::grammar::form_of_items;
 use crate::lines::line_end;
 use crate::names::unknown_name;
 use crate::phrases::{Form, Phrase};
-use crate::places::misfit;
+use crate::places::{have_one_sort, misfit};
+use crate::scope::Scope;
 use ir_core::{AnyTerm, Limits, Part, Text};
 use ir_table::{Interner, NoNames, spell};
 use std::alloc::Global;
@@ -54,26 +54,60 @@ fn term_of(part: Part) -> AnyTerm
     }
 }
 
+// `let`: the name stands for the term from here on.
+fn declare(
+    alloc: Global,
+    cx: &mut Interner,
+    scope: &mut Scope,
+    name: &Text,
+    phrase: &Phrase,
+) -> Result<(), Cause>
+    requires formed { is_formed (phrase_seen phrase.now) ≡ true }
+    requires terms { AreTerms (heap cx.old) (names_in scope.old) }
+    ensures answers { (held : List Term) → HoldsJust (heap cx.old) held → (text : List ℕ) → AnswersForm (capped (state cx.old).limits) (Some (Let name.now (phrase_seen phrase.now))) (left_by (heap cx.old) (names_in scope.old) held) text text (heap cx.new) (names_in scope.new) result }
+    ensures terms { OnOk result (AreTerms (heap cx.new) (names_in scope.new)) }
+    ensures limits { (state cx.new).limits ≡ (state cx.old).limits }
+{
+    if scope.find(name.as_bytes()).is_some() {
+        return Err(Cause::Duplicate);
+    }
+    if unknown_name(scope, phrase) {
+        return Err(Cause::Unknown);
+    }
+    if let Some(cause) = misfit(scope, phrase) {
+        return Err(cause);
+    }
+    let part = match build(alloc, cx, scope, phrase) {
+        Ok(part) => part,
+        Err(error) => return Err(Cause::from(error)),
+    };
+    scope.declare(alloc, name.as_bytes(), part)?;
+    Ok(())
+}
+
 // The line of `print`: the term's spelling.
 fn print(
     alloc: Global,
     cx: &mut Interner,
+    scope: &Scope,
     limits: &Limits,
     phrase: &Phrase,
     out: &mut Text,
 ) -> Result<(), Cause>
     requires formed { is_formed (phrase_seen phrase.now) ≡ true }
     requires limits { (state cx.old).limits ≡ limits_seen limits.now }
-    ensures answers { (held : List Term) → HoldsJust (heap cx.old) held → AnswersForm (capped (limits_seen limits.now)) (Some (Print (phrase_seen phrase.now))) held out.old out.new (heap cx.new) result }
+    requires terms { AreTerms (heap cx.old) (names_in scope.now) }
+    ensures answers { (held : List Term) → HoldsJust (heap cx.old) held → AnswersForm (capped (limits_seen limits.now)) (Some (Print (phrase_seen phrase.now))) (left_by (heap cx.old) (names_in scope.now) held) out.old out.new (heap cx.new) (names_in scope.now) result }
+    ensures terms { OnOk result (AreTerms (heap cx.new) (names_in scope.now)) }
     ensures limits { (state cx.new).limits ≡ (state cx.old).limits }
 {
-    if unknown_name(phrase) {
+    if unknown_name(scope, phrase) {
         return Err(Cause::Unknown);
     }
-    if let Some(cause) = misfit(phrase) {
+    if let Some(cause) = misfit(scope, phrase) {
         return Err(cause);
     }
-    let part = match build(alloc, cx, phrase) {
+    let part = match build(alloc, cx, scope, phrase) {
         Ok(part) => part,
         Err(error) => return Err(Cause::from(error)),
     };
@@ -85,16 +119,65 @@ fn print(
     Ok(())
 }
 
+// The line that says whether two parts are the same.
+fn yes_or_no(one: Part, other: Part) -> &'static [u8]
+    ensures { YesOrNo (one ≡ other) result.now }
+{
+    if one == other { b"yes\n" } else { b"no\n" }
+}
+
+// The line of `same`: whether the terms are the same.
+fn same(
+    alloc: Global,
+    cx: &mut Interner,
+    scope: &Scope,
+    first: &Phrase,
+    second: &Phrase,
+    out: &mut Text,
+) -> Result<(), Cause>
+    requires formed { (is_formed (phrase_seen first.now) && is_formed (phrase_seen second.now)) ≡ true }
+    requires terms { AreTerms (heap cx.old) (names_in scope.now) }
+    ensures answers { (held : List Term) → HoldsJust (heap cx.old) held → AnswersForm (capped (state cx.old).limits) (Some (Same (phrase_seen first.now) (phrase_seen second.now))) (left_by (heap cx.old) (names_in scope.now) held) out.old out.new (heap cx.new) (names_in scope.now) result }
+    ensures terms { OnOk result (AreTerms (heap cx.new) (names_in scope.now)) }
+    ensures limits { (state cx.new).limits ≡ (state cx.old).limits }
+{
+    if unknown_name(scope, first) || unknown_name(scope, second) {
+        return Err(Cause::Unknown);
+    }
+    if let Some(cause) = misfit(scope, first) {
+        return Err(cause);
+    }
+    if let Some(cause) = misfit(scope, second) {
+        return Err(cause);
+    }
+    if !have_one_sort(scope, first, second) {
+        return Err(Cause::Sort);
+    }
+    let one = match build(alloc, cx, scope, first) {
+        Ok(part) => part,
+        Err(error) => return Err(Cause::from(error)),
+    };
+    let other = match build(alloc, cx, scope, second) {
+        Ok(part) => part,
+        Err(error) => return Err(Cause::from(error)),
+    };
+    out.append(yes_or_no(one, other))?;
+    Ok(())
+}
+
 // What one line answers, put behind the text so far.
 fn answer_line(
     alloc: Global,
     cx: &mut Interner,
+    scope: &mut Scope,
     limits: &Limits,
     line: &[u8],
     out: &mut Text,
 ) -> Result<(), Cause>
-    requires { (state cx.old).limits ≡ limits_seen limits.now }
-    ensures answers { (held : List Term) → HoldsJust (heap cx.old) held → AnswersForm (capped (limits_seen limits.now)) (form_of line.now) held out.old out.new (heap cx.new) result }
+    requires limits { (state cx.old).limits ≡ limits_seen limits.now }
+    requires terms { AreTerms (heap cx.old) (names_in scope.old) }
+    ensures answers { (held : List Term) → HoldsJust (heap cx.old) held → AnswersForm (capped (limits_seen limits.now)) (form_of line.now) (left_by (heap cx.old) (names_in scope.old) held) out.old out.new (heap cx.new) (names_in scope.new) result }
+    ensures terms { OnOk result (AreTerms (heap cx.new) (names_in scope.new)) }
     ensures limits { (state cx.new).limits ≡ (state cx.old).limits }
 {
     let Some(items) = expressions(alloc, line)? else {
@@ -103,7 +186,9 @@ fn answer_line(
     match form_of_items(alloc, items.as_slice())? {
         None => Err(Cause::Syntax),
         Some(Form::Blank) => Ok(()),
-        Some(Form::Print(phrase)) => print(alloc, cx, limits, &phrase, out),
+        Some(Form::Let(name, phrase)) => declare(alloc, cx, scope, &name, &phrase),
+        Some(Form::Print(phrase)) => print(alloc, cx, scope, limits, &phrase, out),
+        Some(Form::Same(first, second)) => same(alloc, cx, scope, &first, &second, out),
     }
 }
 
@@ -124,13 +209,15 @@ pub fn answer(alloc: Global, script: &[u8], limits: &Limits) -> Result<Answered,
             });
         }
     };
+    let mut scope = Scope::new(alloc);
     let mut text = Text::new(alloc);
     let mut start = 0;
     let mut number: u64 = 0;
     while start < script.len() {
         let end = line_end(script, start);
         number += 1;
-        if let Err(cause) = answer_line(alloc, &mut cx, limits, &script[start..end], &mut text) {
+        let line = &script[start..end];
+        if let Err(cause) = answer_line(alloc, &mut cx, &mut scope, limits, line, &mut text) {
             return Err(ScriptError {
                 line: number,
                 cause,

@@ -1,4 +1,4 @@
-//! The making of terms: from phrases in which no name is looked up to parts of an interner.
+//! The making of terms: from phrases to parts of an interner.
 ghost use Rattle.ir_core.specs.declared.handles.Part.TheVariants as part;
 ghost use Rattle.ir_laws.specs.Environment.{field_in};
 ghost use Rattle.ir_laws.specs.Heap.{Each};
@@ -8,13 +8,15 @@ ghost use Rattle.ir_script.specs.Built.{Builds, BuildsAll};
 ghost use Rattle.ir_script.specs.Causes.{no_names};
 ghost use Rattle.ir_script.specs.Makeable.{is_buildable};
 ghost use Rattle.ir_script.specs.Phrases.{field_seen, phrase_seen, phrases_seen};
+ghost use Rattle.ir_script.specs.Scope.{AreTerms, env_of, names_in};
 ghost use Rattle.ir_table.specs.Fits.{part_sort};
-ghost use Rattle.ir_table.specs.Interner.{state};
+ghost use Rattle.ir_table.specs.Interner.{heap, state};
 ghost use Rattle.ir_table.specs.Kinds as table;
 ghost use Rattle.std.specs.List.{list_all};
 ghost use Rattle.std.specs.Prelude.{◌≡◌, [], true, Some, Err, map as mapped, IfOk, OnErr};
 
 use crate::phrases::{Field, Phrase};
+use crate::scope::Scope;
 use ir_core::{Part, R, TermError, Ty, Tys};
 use ir_laws::Word;
 use ir_table::{Handle, InternList, Interner, kind_of};
@@ -52,14 +54,16 @@ fn fields_of(alloc: Global, fields: &[Field]) -> R<Vec<ir_table::Field>>
 
 /// The part of the phrase's tree.
 #[cycle(build)]
-pub(crate) fn build(alloc: Global, cx: &mut Interner, phrase: &Phrase) -> R<Part>
-    requires { is_buildable (phrase_seen phrase.now) ≡ true }
-    ensures { Builds (state cx.old) (state cx.new) (phrase_seen phrase.now) result }
+pub(crate) fn build(alloc: Global, cx: &mut Interner, scope: &Scope, phrase: &Phrase) -> R<Part>
+    requires buildable { is_buildable (names_in scope.now) (phrase_seen phrase.now) ≡ true }
+    requires terms { AreTerms (heap cx.old) (names_in scope.now) }
+    ensures { Builds (env_of (heap cx.old) (names_in scope.now)) (names_in scope.now) (state cx.old) (state cx.new) (phrase_seen phrase.now) result }
 {
-    let Phrase::Labelled(word, fields, kids) = phrase else {
-        unreachable!()
+    let (word, fields, kids) = match phrase {
+        Phrase::Name(name) => return Ok(scope.find(name.as_bytes()).unwrap()),
+        Phrase::Labelled(word, fields, kids) => (word, fields, kids),
     };
-    let parts = build_all(alloc, cx, kids)?;
+    let parts = build_all(alloc, cx, scope, kids)?;
     match word {
         Word::TypeList => {
             let types = types_of(alloc, &parts)?;
@@ -75,13 +79,14 @@ pub(crate) fn build(alloc: Global, cx: &mut Interner, phrase: &Phrase) -> R<Part
 
 /// The parts of the phrases' trees.
 #[cycle(build)]
-fn build_all(alloc: Global, cx: &mut Interner, kids: &[Phrase]) -> R<Vec<Part>>
-    requires { list_all (λ p. is_buildable (phrase_seen p)) kids.now ≡ true }
-    ensures { BuildsAll (state cx.old) (state cx.new) (phrases_seen kids.now) result }
+fn build_all(alloc: Global, cx: &mut Interner, scope: &Scope, kids: &[Phrase]) -> R<Vec<Part>>
+    requires buildable { list_all (λ p. is_buildable (names_in scope.now) (phrase_seen p)) kids.now ≡ true }
+    requires terms { AreTerms (heap cx.old) (names_in scope.now) }
+    ensures { BuildsAll (env_of (heap cx.old) (names_in scope.now)) (names_in scope.now) (state cx.old) (state cx.new) (phrases_seen kids.now) result }
 {
     let mut parts = Vec::new(alloc);
     for kid in kids {
-        let part = build(alloc, cx, kid)?;
+        let part = build(alloc, cx, scope, kid)?;
         parts.push(part)?;
     }
     Ok(parts)
@@ -124,7 +129,7 @@ mod tests {
         let parts = vec![in alloc; list]?;
         let tuple = node(Word::TupleType, Vec::new(alloc), parts);
         let mut cx = Interner::new(alloc, LIMITS)?;
-        match build(alloc, &mut cx, &tuple)? {
+        match build(alloc, &mut cx, &Scope::new(alloc), &tuple)? {
             Part::Ty(_) => Ok(true),
             _ => Ok(false),
         }

@@ -1,7 +1,7 @@
 //! From expressions to terms and forms, by the table of labels.
 ghost use Rattle.ir_laws.specs.Expression.{expr_list};
 ghost use Rattle.ir_laws.specs.Form as form;
-ghost use Rattle.ir_laws.specs.Form.{form_of_exprs, one_term};
+ghost use Rattle.ir_laws.specs.Form.{form_of_exprs, let_form as let_read, one_term, two_terms};
 ghost use Rattle.ir_laws.specs.Keyword.{choice_words, keyword_text};
 ghost use Rattle.ir_laws.specs.Label.{row};
 ghost use Rattle.ir_laws.specs.Numeral.{each, is_name, is_name_byte, is_name_start};
@@ -257,6 +257,44 @@ fn print_form(alloc: Global, items: &[Expr]) -> R<Option<Form>>
     }
 }
 
+/// The form `let NAME TERM`, behind its first word.
+fn let_form(alloc: Global, items: &[Expr]) -> R<Option<Form>>
+    ensures read { IfOk result (λ o. option_map form_seen o ≡ let_read (expr_list (exprs_in items.now))) }
+    ensures err { OnErr result (result ≡ Err TermError.Memory) }
+{
+    if items.len() != 2 {
+        return Ok(None);
+    }
+    let Expr::Word(word) = &items[0] else {
+        return Ok(None);
+    };
+    if !is_name(word.as_bytes()) {
+        return Ok(None);
+    }
+    let name = Text::from_bytes(alloc, word.as_bytes())?;
+    match phrase_of_expr(alloc, &items[1])? {
+        Some(phrase) => Ok(Some(Form::Let(name, phrase))),
+        None => Ok(None),
+    }
+}
+
+/// The form `same TERM TERM`, behind its first word.
+fn same_form(alloc: Global, items: &[Expr]) -> R<Option<Form>>
+    ensures read { IfOk result (λ o. option_map form_seen o ≡ two_terms form.Same (expr_list (exprs_in items.now))) }
+    ensures err { OnErr result (result ≡ Err TermError.Memory) }
+{
+    if items.len() != 2 {
+        return Ok(None);
+    }
+    let Some(first) = phrase_of_expr(alloc, &items[0])? else {
+        return Ok(None);
+    };
+    match phrase_of_expr(alloc, &items[1])? {
+        Some(second) => Ok(Some(Form::Same(first, second))),
+        None => Ok(None),
+    }
+}
+
 /// The form of a line's expressions; none where they have no form of the grammar.
 pub(crate) fn form_of_items(alloc: Global, items: &[Expr]) -> R<Option<Form>>
     ensures read { IfOk result (λ o. option_map form_seen o ≡ form_of_exprs (expr_list (exprs_in items.now))) }
@@ -265,7 +303,9 @@ pub(crate) fn form_of_items(alloc: Global, items: &[Expr]) -> R<Option<Form>>
     match items.split_first() {
         None => Ok(Some(Form::Blank)),
         Some((Expr::Word(word), rest)) => match word.as_bytes() {
+            b"let" => let_form(alloc, rest),
             b"print" => print_form(alloc, rest),
+            b"same" => same_form(alloc, rest),
             _ => Ok(None),
         },
         Some((Expr::Group(_), _)) => Ok(None),
@@ -300,7 +340,7 @@ mod tests {
         Ok(true)
     }
 
-    // The form of a line whose words and brackets are set apart by single spaces: `-` none, `b` blank, `p` print.
+    // The form of a line whose words and brackets are set apart by single spaces: `-` none, `b` blank, `l` let, `p` print, `s` same.
     fn form_letter(alloc: Global, line: &[u8]) -> R<u8> {
         let mut stack = Vec::new(alloc);
         stack.push(Exprs::new(alloc))?;
@@ -315,13 +355,15 @@ mod tests {
         match form_of_items(alloc, items.as_slice())? {
             None => Ok(b'-'),
             Some(Form::Blank) => Ok(b'b'),
+            Some(Form::Let(_, _)) => Ok(b'l'),
             Some(Form::Print(_)) => Ok(b'p'),
+            Some(Form::Same(_, _)) => Ok(b's'),
         }
     }
 
     #[test]
     fn lines_have_their_forms(rt: HostRuntime) -> Result<(), Fail> {
-        let rows: [(&[u8], u8); 14] = [
+        let rows: [(&[u8], u8); 19] = [
             (b"", b'b'),
             (b"print u8", b'p'),
             (b"print ( ref not static u8 )", b'p'),
@@ -334,6 +376,11 @@ mod tests {
             (b"print ( tuple u8 )", b'-'),
             (b"print ( ref maybe static u8 )", b'-'),
             (b"flags u8", b'-'),
+            (b"let X u8", b'l'),
+            (b"let x u8", b'-'),
+            (b"let X", b'-'),
+            (b"same X ( tuple ( u8 ) )", b's'),
+            (b"same X", b'-'),
             (b"print", b'-'),
             (b"print u8 u8", b'-'),
         ];

@@ -11,6 +11,7 @@ mod names;
 mod phrases;
 mod places;
 mod reader;
+mod scope;
 
 pub use answers::{Answered, answer};
 pub use causes::{Cause, ScriptError};

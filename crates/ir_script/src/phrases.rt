@@ -20,6 +20,10 @@ pub(crate) enum Field {
 pub(crate) enum Form {
     /// A line that holds no token.
     Blank,
+    /// A name for a term.
+    Let(Text, Phrase),
     /// The spelling of a term.
     Print(Phrase),
+    /// Whether two terms are the same.
+    Same(Phrase, Phrase),
 }

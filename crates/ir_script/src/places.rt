@@ -1,14 +1,18 @@
 //! Terms in places that want another sort, and lists of a length that theirs does not take.
 ghost use Rattle.std.specs.Prelude.{◌≡◌, [], drop, get_or};
 ghost use Rattle.ir_laws.specs.Counts.{sort_of_label};
-ghost use Rattle.ir_laws.specs.Sorts.{operand, is_sort_among, suits, length_misfits, kid_wanted, kids_wanted, places, misfits, each_misfits};
+ghost use Rattle.ir_laws.specs.Sorts.{are_of_one_sort, sort_of_phrase as sort_in, operand, is_sort_among, suits, length_misfits, kid_wanted, kids_wanted, places, misfits, each_misfits};
 ghost use Rattle.ir_laws.specs.declared.words.Word.{Word};
 ghost use Rattle.ir_script.specs.Causes.{no_names, Finds};
 ghost use Rattle.ir_script.specs.Phrases.{phrase_seen, phrases_seen};
+ghost use Rattle.ir_core.specs.declared.handles.Part.{Part as PartSeen};
+ghost use Rattle.ir_laws.specs.Heap.{Heap};
+ghost use Rattle.ir_script.specs.Scope.{AreTerms, env_of, names_in};
 ghost use Rattle.ir_script.specs.Wanted.{wanted_seen, bare};
 
 use crate::causes::Cause;
 use crate::phrases::Phrase;
+use crate::scope::Scope;
 use ir_laws::{IfEmpty, KidForm, Part, Sort, Word};
 
 /// What a place wants. No item is declared, so that no place knows the sorts of an item's arguments.
@@ -40,11 +44,10 @@ impl Wanted {
         }
     }
 
-    /// Whether a label of this word has a sort that is wanted.
-    fn suits(self, word: Word) -> bool
-        ensures { result ≡ suits (wanted_seen self) word (sort_of_label (bare word)) }
+    /// Whether a term of this sort is wanted.
+    fn suits(self, sort: Sort) -> bool
+        ensures { (word : Word) → result ≡ suits (wanted_seen self) word sort }
     {
-        let sort = sort_of(word);
         match self {
             Wanted::Operand => is_among(
                 &[
@@ -124,27 +127,56 @@ fn next_kid(parts: &[Part], further: Wanted) -> (Wanted, &[Part])
     (further, &[])
 }
 
-/// A fault of the phrase as an operand, where no name is declared.
-pub(crate) fn misfit(phrase: &Phrase) -> Option<Cause>
-    ensures { Finds result (misfits no_names operand (phrase_seen phrase.now)) }
+/// The sort of the phrase; none for a name that stands for no term.
+fn sort_of_phrase(scope: &Scope, phrase: &Phrase) -> Option<Sort>
+    ensures { (h : Heap PartSeen) → AreTerms h (names_in scope.now) → result ≡ sort_in (env_of h (names_in scope.now)) (phrase_seen phrase.now) }
 {
-    misfit_in(Wanted::Operand, phrase)
+    match phrase {
+        Phrase::Name(name) => scope.sort_of(name.as_bytes()),
+        Phrase::Labelled(word, _, _) => Some(sort_of(*word)),
+    }
+}
+
+/// Whether both phrases have a sort, and it is one.
+pub(crate) fn have_one_sort(scope: &Scope, first: &Phrase, second: &Phrase) -> bool
+    ensures { (h : Heap PartSeen) → AreTerms h (names_in scope.now) → result ≡ are_of_one_sort (sort_in (env_of h (names_in scope.now)) (phrase_seen first.now)) (sort_in (env_of h (names_in scope.now)) (phrase_seen second.now)) }
+{
+    match (sort_of_phrase(scope, first), sort_of_phrase(scope, second)) {
+        (Some(one), Some(other)) => one == other,
+        _ => false,
+    }
+}
+
+/// A fault of the phrase as an operand.
+pub(crate) fn misfit(scope: &Scope, phrase: &Phrase) -> Option<Cause>
+    ensures { (h : Heap PartSeen) → AreTerms h (names_in scope.now) → Finds result (misfits (env_of h (names_in scope.now)) operand (phrase_seen phrase.now)) }
+{
+    misfit_in(scope, Wanted::Operand, phrase)
 }
 
 /// A fault of the phrase in a place that wants this.
 #[cycle(places)]
-fn misfit_in(wanted: Wanted, phrase: &Phrase) -> Option<Cause>
-    ensures { Finds result (misfits no_names (wanted_seen wanted) (phrase_seen phrase.now)) }
+fn misfit_in(scope: &Scope, wanted: Wanted, phrase: &Phrase) -> Option<Cause>
+    ensures { (h : Heap PartSeen) → AreTerms h (names_in scope.now) → Finds result (misfits (env_of h (names_in scope.now)) (wanted_seen wanted) (phrase_seen phrase.now)) }
 {
     match phrase {
-        Phrase::Name(_) => Some(Cause::Sort),
+        Phrase::Name(name) => {
+            let Some(sort) = scope.sort_of(name.as_bytes()) else {
+                return Some(Cause::Sort);
+            };
+            if wanted.suits(sort) {
+                None
+            } else {
+                Some(Cause::Sort)
+            }
+        }
         Phrase::Labelled(word, _, kids) => {
-            if !wanted.suits(*word) {
+            if !wanted.suits(sort_of(*word)) {
                 return Some(Cause::Sort);
             }
             match wanted.length_misfit(kids.len()) {
                 Some(cause) => Some(cause),
-                None => misfit_among(kids, wanted.parts_of(*word), wanted.further()),
+                None => misfit_among(scope, kids, wanted.parts_of(*word), wanted.further()),
             }
         }
     }
@@ -152,13 +184,13 @@ fn misfit_in(wanted: Wanted, phrase: &Phrase) -> Option<Cause>
 
 /// A fault of the kids, the first of which are wanted by the parts.
 #[cycle(places)]
-fn misfit_among(kids: &[Phrase], parts: &[Part], further: Wanted) -> Option<Cause>
-    ensures { Finds result (each_misfits no_names (kids_wanted no_names [] parts.now) (wanted_seen further) (phrases_seen kids.now)) }
+fn misfit_among(scope: &Scope, kids: &[Phrase], parts: &[Part], further: Wanted) -> Option<Cause>
+    ensures { (h : Heap PartSeen) → AreTerms h (names_in scope.now) → Finds result (each_misfits (env_of h (names_in scope.now)) (kids_wanted no_names [] parts.now) (wanted_seen further) (phrases_seen kids.now)) }
 {
     let mut rest = parts;
     for kid in kids {
         let (wanted, behind) = next_kid(rest, further);
-        let found = misfit_in(wanted, kid);
+        let found = misfit_in(scope, wanted, kid);
         if found.is_some() {
             return found;
         }
@@ -199,30 +231,36 @@ mod tests {
     #[test]
     fn kids_go_by_the_parts_of_their_label(rt: HostRuntime) -> Result<(), Fail> {
         let alloc = rt.alloc();
+        let scope = Scope::new(alloc);
         let fits = reference(alloc, Word::StaticRegion, Word::U8Type)?;
-        assert_eq!(rt; misfit(&fits), None);
+        assert_eq!(rt; misfit(&scope, &fits), None);
         let no_region = reference(alloc, Word::U8Type, Word::U8Type)?;
-        assert_eq!(rt; misfit(&no_region), Some(Cause::Sort));
-        assert_eq!(rt; misfit(&leaf(alloc, Word::StaticRegion)), None);
+        assert_eq!(rt; misfit(&scope, &no_region), Some(Cause::Sort));
+        assert_eq!(rt; misfit(&scope, &leaf(alloc, Word::StaticRegion)), None);
         Ok(())
     }
 
     #[test]
     fn members_have_the_sort_of_their_list(rt: HostRuntime) -> Result<(), Fail> {
         let alloc = rt.alloc();
+        let scope = Scope::new(alloc);
         let of_region = vec![in alloc; leaf(alloc, Word::StaticRegion)]?;
-        assert_eq!(rt; misfit(&tuple(alloc, of_region)?), Some(Cause::Sort));
-        assert_eq!(rt; misfit(&tuple(alloc, Vec::new(alloc))?), None);
+        assert_eq!(rt;
+            misfit(&scope, &tuple(alloc, of_region)?),
+            Some(Cause::Sort)
+        );
+        assert_eq!(rt; misfit(&scope, &tuple(alloc, Vec::new(alloc))?), None);
         Ok(())
     }
 
     #[test]
     fn an_alternative_needs_a_member(rt: HostRuntime) -> Result<(), Fail> {
         let alloc = rt.alloc();
+        let scope = Scope::new(alloc);
         let list = leaf(alloc, Word::PatternList);
         let kids = vec![in alloc; list]?;
         assert_eq!(rt;
-            misfit(&node(alloc, Word::OrPattern, kids)),
+            misfit(&scope, &node(alloc, Word::OrPattern, kids)),
             Some(Cause::EmptyOr)
         );
         Ok(())

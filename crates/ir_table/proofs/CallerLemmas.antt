@@ -1,14 +1,13 @@
 -- What a caller of `new` cites.
-use Rattle.std.proofs.Common.{◌≡◌, ◌≤◌, ◌∙◌, refl, ℕ, List, [], Option, None, Some, length, slice_get, option_map, Result, Ok, Err, IfOk, IsOk, subst, sym, ap, arith}
+use Rattle.std.proofs.Common.{◌≡◌, ◌≤◌, ◌∙◌, refl, ℕ, List, [], ◌∷◌, map, Option, None, Some, slice_get, option_map, Result, Ok, Err, IfOk, IsOk, subst, sym, ap, arith}
 use Rattle.std.proofs.lemmas.Option.{none-some, same_Some}
-use Rattle.ir_laws.specs.Held.{Stands}
-use Rattle.ir_laws.specs.Heap.{Shape, Sketch, plant, forest, Heap, IsLive, Grows, Holds, HasNode, IsSound, tree_of, height_above}
+use Rattle.std.specs.Iterator.{AlwaysYields, HoldsAlong, Yields}
+use Rattle.ir_laws.specs.Heap.{Shape, Sketch, Each, plant, forest, Heap, IsLive, Grows, Holds, HasNode, IsSound, tree_of, height_above}
 use Rattle.ir_laws.specs.Counts.{sort_of, sort_of_label}
 use Rattle.ir_laws.specs.declared.labels.Sort.{Sort}
 use Rattle.ir_laws.specs.declared.labels.Sort.TheVariants.{OfType, OfRegion, OfConstant, OfList}
 use Rattle.ir_core.specs.declared.handles.Part.{Part}
 use Rattle.ir_core.specs.declared.handles.Part.TheVariants as part
-use Rattle.ir_core.specs.declared.handles.Ty.{Ty}
 use Rattle.ir_core.specs.declared.kinds.IntTy.TheVariants as int
 use Rattle.ir_core.specs.declared.kinds.UintTy.TheVariants as uint
 use Rattle.ir_core.specs.declared.kinds.FloatTy.TheVariants as float
@@ -18,7 +17,7 @@ use Rattle.ir_core.specs.declared.kinds.ConstKind.{ConstKind}
 use Rattle.ir_core.specs.declared.kinds.ConstKind.TheVariants as konst
 use Rattle.ir_core.specs.declared.kinds.RegionKind.{RegionKind}
 use Rattle.ir_core.specs.declared.kinds.RegionKind.TheVariants as region
-use Rattle.ir_table.specs.declared.parts.Cached.{Cached}
+use Rattle.ir_table.specs.declared.parts.Kept.{Kept}
 use Rattle.ir_table.specs.Fits.{part_sort}
 use Rattle.ir_table.specs.Kinds.{heap_of, ty_shape, ty_kids, const_shape, region_shape, tys_shape, tys_kids, variables_shape, variances_shape, empty_shape, empty_at, sketch_of}
 use Rattle.ir_table.specs.declared.store.EmptyList.{EmptyList}
@@ -37,14 +36,6 @@ module _ {T : Type 0} {name : T → Part} {old new : State} {shape : Shape} {kid
   new_grows (Ok t) a = a.ok.grows
   new_grows (Err e) a = subst (λ (s : State). Grows old.heap s.heap) (sym a.err) (Grows-refl old.heap)
 
-  pub new_live : (r : Result T TermError) → NewAnswers name old new shape kids r → IfOk r (λ t. IsLive new.heap (name t))
-  new_live (Ok t) a = a.ok.live
-  new_live (Err e) a = tt
-
-  pub new_tree : (r : Result T TermError) → NewAnswers name old new shape kids r → IfOk r (λ t. tree_of new.heap (name t) ≡ plant shape (forest (tree_of old.heap) kids))
-  new_tree (Ok t) a = a.ok.tree
-  new_tree (Err e) a = tt
-
   -- a node that is held is given its name, and no memory is needed
   pub new_succeeds : Holds old.heap shape kids → height_above old.heap kids ≤ highest old → width shape kids ≤ 8 → (r : Result T TermError) → NewAnswers name old new shape kids r → IsOk r
   new_succeeds held low few (Ok t) a = refl
@@ -54,18 +45,14 @@ module _ {T : Type 0} {name : T → Part} {old new : State} {shape : Shape} {kid
   new_succeeds held low few (Err error.Escapes) a = absurd a.causes
   new_succeeds held low few (Err error.MissingVar) a = absurd a.causes
 
-  pub new_same : IsSound new.heap → (p : Part) → IsLive old.heap p → HasNode old.heap p shape kids → (r : Result T TermError) → NewAnswers name old new shape kids r → IfOk r (λ t. name t ≡ p)
-  new_same sound p live has (Ok t) a =
-      tree_of-injective new.heap sound (name t) p a.ok.live (a.ok.grows.live p live) (a.ok.tree ∙ sym has.tree ∙ sym (a.ok.grows.tree p live))
-  new_same sound p live has (Err e) a = tt
-
-pub ok_map : {T E : Type 0} (r : Result T E) {A B : T → Type 0} → ((t : T) → A t → B t) → IfOk r A → IfOk r B
-ok_map (Ok t) f a = f t a
-ok_map (Err e) f a = tt
-
--- a tree that stands in a heap stands in a later one
-pub stands_later : {h k : Heap Part} {t : Term} → Grows h k → Stands h t → Stands k t
-stands_later grows s = (s.0, grows.live s.0 s.1, grows.tree s.0 s.1 ∙ s.2)
+-- where an iterator gives a list whose parts are live, so are those of what has come
+pub given_live : {S X : Type 0} (steps : S → Option X → S → Type 0) (name : X → Part) (h : Heap Part) (ys : List X) (s : S) → AlwaysYields steps (λ x. x) s ys → Each (IsLive h) (map name ys) → HoldsAlong steps s (λ xs. Each (IsLive h) (map name xs))
+given_live {S = S} {X = X} steps name h ys s all live = λ xs t came. by ys s xs t all live came
+  where
+    by : (ys : List X) (s : S) (xs : List X) (t : S) → AlwaysYields steps (λ x. x) s ys → Each (IsLive h) (map name ys) → Yields steps s xs t → Each (IsLive h) (map name xs)
+    by ys s [] t all live came = tt
+    by [] s (x ∷ xs) t all live came = absurd (all x came.0 came.1)
+    by (y ∷ ys) s (x ∷ xs) t all live came = let w = all.1 x came.0 came.1 in (subst (λ z. IsLive h (name z)) (sym w.0) live.0, by ys came.0 xs t w.1 live.1 came.2)
 
 -- ---- the sort of a part is that of its tree
 
@@ -115,10 +102,10 @@ sketch_sort f sort all None s e = absurd (none-some s e)
 sketch_sort f sort all (Some x) s e = ap (λ (t : Sketch Part). sort_of_label t.shape.label) (sym (same_Some (f x) s e)) ∙ all x
 
 module _ (t : Tables) where
-  kind_sort : {K : Type 0} (shape : K → Shape) (kids : K → List Part) (es : List (K × Cached)) (sort : Sort) → ((k : K) → sort_of_label (shape k).label ≡ sort) → (i : ℕ) (s : Sketch Part) → option_map (sketch_of shape kids) (slice_get es i) ≡ Some s → sort_of_label s.shape.label ≡ sort
+  kind_sort : {K : Type 0} (shape : K → Shape) (kids : K → List Part) (es : List (K × Kept)) (sort : Sort) → ((k : K) → sort_of_label (shape k).label ≡ sort) → (i : ℕ) (s : Sketch Part) → option_map (sketch_of shape kids) (slice_get es i) ≡ Some s → sort_of_label s.shape.label ≡ sort
   kind_sort shape kids es sort all i s e = sketch_sort (sketch_of shape kids) sort (λ x. all x.0) (slice_get es i) s e
 
-  empty_list_sort : (k : EmptyList) (o : Option (EmptyList × Cached)) (s : Sketch Part) → empty_at k o ≡ Some s → sort_of_label s.shape.label ≡ OfList
+  empty_list_sort : (k : EmptyList) (o : Option (EmptyList × Kept)) (s : Sketch Part) → empty_at k o ≡ Some s → sort_of_label s.shape.label ≡ OfList
   empty_list_sort k o s e = let p = empty_pair k o s e in sym (ap (λ (u : Sketch Part). sort_of_label u.shape.label) p.2) ∙ empty_sort k
 
   node_sort : (p : Part) (s : Sketch Part) → heap_of t p ≡ Some s → sort_of_label s.shape.label ≡ part_sort p

@@ -8,6 +8,7 @@ pub mod CallerLemmas
 pub mod MakesLemmas
 pub mod StartLemmas
 pub mod EmptyLemmas
+pub mod LastLemmas
 pub mod NodeLemmas
 pub mod JoinLemmas
 pub mod SpellingLemmas

@@ -6,31 +6,31 @@ use Rattle.std.specs.Option.{option_map, option_map_or}
 use Rattle.std.proofs.lemmas.Option.{same_Some}
 use Rattle.ir_core.specs.declared.handles.Part.{Part}
 use Rattle.ir_table.specs.declared.store.EmptyList.{EmptyList}
-use Rattle.ir_table.specs.declared.parts.Cached.{Cached}
+use Rattle.ir_table.specs.declared.parts.Kept.{Kept}
 use Rattle.ir_table.specs.Kinds.{empty_at, sketch_of}
 use Rattle.ir_table.proofs.PartLemmas.{empty_pair}
 
 -- what is kept of a part, as the heap has it
-abbrev pub IsKeptOf : Option (Sketch Part) → Cached → Type 0
+abbrev pub IsKeptOf : Option (Sketch Part) → Kept → Type 0
 IsKeptOf o c = (c.height ≡ option_map_or (λ s. s.height) o 0) × (c.size ≡ option_map_or (λ s. s.size) o 0)
 
 -- it is what the pair has
-pub pair_cached : {K : Type 0} (shape : K → Shape) (kids : K → List Part) (o : Option (K × Cached)) (c : Cached) → option_map (λ e. e.1) o ≡ Some c → IsKeptOf (option_map (sketch_of shape kids) o) c
+pub pair_cached : {K : Type 0} (shape : K → Shape) (kids : K → List Part) (o : Option (K × Kept)) (c : Kept) → option_map (λ e. e.1) o ≡ Some c → IsKeptOf (option_map (sketch_of shape kids) o) c
 pair_cached shape kids None c e = absurd cc
-pair_cached shape kids (Some x) c e = let same = same_Some x.1 c e in (ap (λ (d : Cached). d.height) (sym same), ap (λ (d : Cached). d.size) (sym same))
+pair_cached shape kids (Some x) c e = let same = same_Some x.1 c e in (ap (λ (d : Kept). d.height) (sym same), ap (λ (d : Kept). d.size) (sym same))
 
-pub value_of_pair : {K : Type 0} (o : Option (K × Cached)) (e : K × Cached) → o ≡ Some e → option_map (λ x. x.1) o ≡ Some e.1
+pub value_of_pair : {K : Type 0} (o : Option (K × Kept)) (e : K × Kept) → o ≡ Some e → option_map (λ x. x.1) o ≡ Some e.1
 value_of_pair o e is = ap (option_map (λ x. x.1)) is
 
-pub empty_cached : (k : EmptyList) (o : Option (EmptyList × Cached)) (c : Cached) → IsSome (empty_at k o) → option_map (λ e. e.1) o ≡ Some c → IsKeptOf (empty_at k o) c
+pub empty_cached : (k : EmptyList) (o : Option (EmptyList × Kept)) (c : Kept) → IsSome (empty_at k o) → option_map (λ e. e.1) o ≡ Some c → IsKeptOf (empty_at k o) c
 empty_cached k o c live e = by (empty_at k o) refl live
   where
     by : (s : Option (Sketch Part)) → empty_at k o ≡ s → IsSome s → IsKeptOf (empty_at k o) c
     by None is l = absurd cc
     by (Some s) is l =
         let p = empty_pair k o s is in
-        let same : p.0 ≡ c = same_Some p.0 c (sym (ap (option_map (λ (x : EmptyList × Cached). x.1)) p.1) ∙ e) in
-        subst (λ t. IsKeptOf t c) (sym is) (subst (λ (t : Sketch Part). (c.height ≡ t.height) × (c.size ≡ t.size)) p.2 (ap (λ (d : Cached). d.height) (sym same), ap (λ (d : Cached). d.size) (sym same)))
+        let same : p.0 ≡ c = same_Some p.0 c (sym (ap (option_map (λ (x : EmptyList × Kept). x.1)) p.1) ∙ e) in
+        subst (λ t. IsKeptOf t c) (sym is) (subst (λ (t : Sketch Part). (c.height ≡ t.height) × (c.size ≡ t.size)) p.2 (ap (λ (d : Kept). d.height) (sym same), ap (λ (d : Kept). d.size) (sym same)))
 
 -- one step over names, by what is left of them
 module _ {P : Type 0} (xs : List P) (i : ℕ) (d : P) (within : i < length xs) where

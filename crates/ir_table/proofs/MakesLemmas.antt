@@ -3,8 +3,8 @@ use Rattle.std.proofs.Common.{◌≡◌, suc, List, [], ◌∷◌, ◌++◌, Res
 use Rattle.ir_core.specs.declared.errors.TermError.{TermError}
 use Rattle.ir_core.specs.declared.errors.TermError.TheVariants as error
 use Rattle.ir_core.specs.declared.handles.Part.{Part}
-use Rattle.ir_laws.specs.Counts.{height, heights}
-use Rattle.ir_laws.specs.Heap.{Shape, plant, forest, Heap, Each, largest, IsLive, IsSound, Grows, tree_of, cached_height, height_above}
+use Rattle.ir_laws.specs.Counts.{height}
+use Rattle.ir_laws.specs.Heap.{Shape, plant, forest, Heap, Each, IsLive, IsSound, Grows, tree_of, cached_height, height_above}
 use Rattle.ir_laws.specs.Held.{Stands, HoldsJust, Counts}
 use Rattle.ir_laws.specs.Limits.{Limits, capped}
 use Rattle.ir_laws.specs.Parts.{is_part, is_set}

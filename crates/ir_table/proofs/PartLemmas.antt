@@ -30,40 +30,40 @@ use Rattle.ir_laws.specs.declared.labels.Keyword.TheVariants.{Covariant, Contrav
 use Rattle.ir_core.specs.declared.ids.SolverDefId.{SolverDefId}
 use Rattle.ir_laws.specs.Tree.{Field, Chosen}
 use Rattle.ir_laws.proofs.Telling.{by_number}
-use Rattle.ir_table.specs.declared.parts.Cached.{Cached}
+use Rattle.ir_table.specs.declared.parts.Kept.{Kept}
 use Rattle.ir_table.specs.declared.store.EmptyList.{EmptyList}
 use Rattle.ir_table.specs.declared.store.EmptyList.TheVariants as empty
 use Rattle.ir_table.specs.declared.store.Tables.{Tables}
 use Rattle.ir_table.specs.Table.{HasNoKey}
-use Rattle.ir_table.specs.Kinds.{shape, ty_word, ty_fields, ty_shape, ty_kids, ty_of, const_word, const_shape, region_word, region_shape, region_of, tys_shape, tys_kids, variable_field, variables_shape, variance_field, variances_shape, empty_word, empty_shape, empty_number, empty_part, empty_at, sketch_of, ty_sketch, const_sketch, region_sketch, tys_sketch, variables_sketch, variances_sketch, heap_of}
+use Rattle.ir_table.specs.Kinds.{shape, ty_word, ty_fields, ty_shape, ty_kids, ty_of, const_word, const_shape, region_word, region_shape, region_of, tys_shape, tys_kids, variable_field, variables_shape, variance_field, variances_shape, empty_word, empty_shape, empty_number, empty_part, empty_at, sketch_of, heap_of}
 use Rattle.ir_table.proofs.TableLemmas.{slice_get_push, slice_get_push_other, slice_get_end}
 
 -- ---- tables with another table of one sort
 
-abbrev pub with_tys : Tables → List (TyKind × Cached) → Tables
+abbrev pub with_tys : Tables → List (TyKind × Kept) → Tables
 with_tys t es = record { tys = es; consts = t.consts; regions = t.regions; type_lists = t.type_lists; variable_lists = t.variable_lists; variance_lists = t.variance_lists; empty_lists = t.empty_lists }
 
-abbrev pub with_consts : Tables → List (ConstKind × Cached) → Tables
+abbrev pub with_consts : Tables → List (ConstKind × Kept) → Tables
 with_consts t es = record { tys = t.tys; consts = es; regions = t.regions; type_lists = t.type_lists; variable_lists = t.variable_lists; variance_lists = t.variance_lists; empty_lists = t.empty_lists }
 
-abbrev pub with_regions : Tables → List (RegionKind × Cached) → Tables
+abbrev pub with_regions : Tables → List (RegionKind × Kept) → Tables
 with_regions t es = record { tys = t.tys; consts = t.consts; regions = es; type_lists = t.type_lists; variable_lists = t.variable_lists; variance_lists = t.variance_lists; empty_lists = t.empty_lists }
 
-abbrev pub with_type_lists : Tables → List (List Ty × Cached) → Tables
+abbrev pub with_type_lists : Tables → List (List Ty × Kept) → Tables
 with_type_lists t es = record { tys = t.tys; consts = t.consts; regions = t.regions; type_lists = es; variable_lists = t.variable_lists; variance_lists = t.variance_lists; empty_lists = t.empty_lists }
 
-abbrev pub with_variable_lists : Tables → List (List BoundVarKind × Cached) → Tables
+abbrev pub with_variable_lists : Tables → List (List BoundVarKind × Kept) → Tables
 with_variable_lists t es = record { tys = t.tys; consts = t.consts; regions = t.regions; type_lists = t.type_lists; variable_lists = es; variance_lists = t.variance_lists; empty_lists = t.empty_lists }
 
-abbrev pub with_variance_lists : Tables → List (List Variance × Cached) → Tables
+abbrev pub with_variance_lists : Tables → List (List Variance × Kept) → Tables
 with_variance_lists t es = record { tys = t.tys; consts = t.consts; regions = t.regions; type_lists = t.type_lists; variable_lists = t.variable_lists; variance_lists = es; empty_lists = t.empty_lists }
 
-abbrev pub with_empty_lists : Tables → List (EmptyList × Cached) → Tables
+abbrev pub with_empty_lists : Tables → List (EmptyList × Kept) → Tables
 with_empty_lists t es = record { tys = t.tys; consts = t.consts; regions = t.regions; type_lists = t.type_lists; variable_lists = t.variable_lists; variance_lists = t.variance_lists; empty_lists = es }
 
 -- ---- pairs behind nodes
 
-pair_of : {K : Type 0} (f : K × Cached → Sketch Part) (o : Option (K × Cached)) (s : Sketch Part) → option_map f o ≡ Some s → (e : K × Cached) × (o ≡ Some e) × (f e ≡ s)
+pair_of : {K : Type 0} (f : K × Kept → Sketch Part) (o : Option (K × Kept)) (s : Sketch Part) → option_map f o ≡ Some s → (e : K × Kept) × (o ≡ Some e) × (f e ≡ s)
 pair_of f None s e = absurd cc
 pair_of f (Some x) s e = (x, refl, cc)
 
@@ -78,18 +78,18 @@ empty_same k l e = (by_number empty_number (empty.GenericArgs ∷ empty.PatList 
     back empty.RegionAssumptions = refl
 
 -- the empty list of a sort is a pair of it
-pub empty_pair : (k : EmptyList) (o : Option (EmptyList × Cached)) (s : Sketch Part) → empty_at k o ≡ Some s → (c : Cached) × (o ≡ Some (k, c)) × (sketch_of empty_shape (λ _. []) (k, c) ≡ s)
+pub empty_pair : (k : EmptyList) (o : Option (EmptyList × Kept)) (s : Sketch Part) → empty_at k o ≡ Some s → (c : Kept) × (o ≡ Some (k, c)) × (sketch_of empty_shape (λ _. []) (k, c) ≡ s)
 empty_pair k None s e = absurd cc
 empty_pair k (Some x) s e = by (nat_eq (empty_number x.0) (empty_number k)) refl
   where
-    by : (b : Bool) → nat_eq (empty_number x.0) (empty_number k) ≡ b → (c : Cached) × (Some x ≡ Some (k, c)) × (sketch_of empty_shape (λ _. []) (k, c) ≡ s)
+    by : (b : Bool) → nat_eq (empty_number x.0) (empty_number k) ≡ b → (c : Kept) × (Some x ≡ Some (k, c)) × (sketch_of empty_shape (λ _. []) (k, c) ≡ s)
     by true same =
         let key = empty_same x.0 k same in
         let here : Some (sketch_of empty_shape (λ _. []) x) ≡ Some s = sym (ap (λ b. if b then Some (sketch_of empty_shape (λ _. []) x) else None) same) ∙ e in
         (x.1, ap (λ l. Some (l, x.1)) key, ap (λ l. sketch_of empty_shape (λ _. []) (l, x.1)) (sym key) ∙ same_Some _ _ here)
     by false other = let bad : None ≡ Some s = sym (ap (λ b. if b then Some (sketch_of empty_shape (λ _. []) x) else None) other) ∙ e in absurd (none-some s bad)
 
-empty_here : (k : EmptyList) (c : Cached) → empty_at k (Some (k, c)) ≡ Some (sketch_of empty_shape (λ _. []) (k, c))
+empty_here : (k : EmptyList) (c : Kept) → empty_at k (Some (k, c)) ≡ Some (sketch_of empty_shape (λ _. []) (k, c))
 empty_here empty.GenericArgs c = refl
 empty_here empty.PatList c = refl
 empty_here empty.BoundExistentialPredicates c = refl
@@ -218,7 +218,7 @@ region_of-parts (region.ReError e) = refl
 
 -- a part's label is of its sort
 module _ (t : Tables) where
-  kind_sorted : {K : Type 0} (shape : K → Shape) (kids : K → List Part) (es : List (K × Cached)) (sort : Sort) → ((k : K) → shape_sort (shape k) ≡ sort)
+  kind_sorted : {K : Type 0} (shape : K → Shape) (kids : K → List Part) (es : List (K × Kept)) (sort : Sort) → ((k : K) → shape_sort (shape k) ≡ sort)
       → (i : ℕ) (s : Sketch Part) → option_map (sketch_of shape kids) (slice_get es i) ≡ Some s → shape_sort s.shape ≡ sort
   kind_sorted shape kids es sort all i s e = let p = pair_of (sketch_of shape kids) (slice_get es i) s e in sym (ap (λ (u : Sketch Part). shape_sort u.shape) p.2) ∙ all p.0.0
 
@@ -239,10 +239,10 @@ module _ (t : Tables) where
   sorted (part.Clauses h) s e = empty_sorted empty.Clauses h.position s e
   sorted (part.RegionAssumptions h) s e = empty_sorted empty.RegionAssumptions h.position s e
 
-  kidless : {K : Type 0} (shape : K → Shape) (o : Option (K × Cached)) (s : Sketch Part) → option_map (sketch_of shape (λ _. [])) o ≡ Some s → s.kids ≡ []
+  kidless : {K : Type 0} (shape : K → Shape) (o : Option (K × Kept)) (s : Sketch Part) → option_map (sketch_of shape (λ _. [])) o ≡ Some s → s.kids ≡ []
   kidless shape o s e = let p = pair_of (sketch_of shape (λ _. [])) o s e in sym (ap (λ (u : Sketch Part). u.kids) p.2)
 
-  empty_kidless : (k : EmptyList) (o : Option (EmptyList × Cached)) (s : Sketch Part) → empty_at k o ≡ Some s → s.kids ≡ []
+  empty_kidless : (k : EmptyList) (o : Option (EmptyList × Kept)) (s : Sketch Part) → empty_at k o ≡ Some s → s.kids ≡ []
   empty_kidless k o s e = let p = empty_pair k o s e in sym (ap (λ (u : Sketch Part). u.kids) p.2)
 
   -- types and lists of types alone have kids
@@ -262,7 +262,7 @@ module _ (t : Tables) where
 
 -- ---- a table that gets one more pair
 
-module _ {K : Type 0} (f : K × Cached → Sketch Part) (es : List (K × Cached)) (e : K × Cached) where
+module _ {K : Type 0} (f : K × Kept → Sketch Part) (es : List (K × Kept)) (e : K × Kept) where
   at_end : option_map f (slice_get es (length es)) ≡ None
   at_end = ap (option_map f) (slice_get_end es)
 
@@ -270,14 +270,14 @@ module _ {K : Type 0} (f : K × Cached → Sketch Part) (es : List (K × Cached)
   at_new = ap (option_map f) (slice_get_push es e)
 
 -- What a heap says of a sort whose parts have a table of their own: the pair at i is the node of `name (handle i)`, no other part goes by the table, and a kind is told by its shape and kids
-pub record HasTable {K T : Type 0} (name : T → Part) (handle : ℕ → T) (shape : K → Shape) (kids : K → List Part) (heap : List (K × Cached) → Heap Part) : Type 0 where
-  pub at : (es : List (K × Cached)) (i : ℕ) → heap es (name (handle i)) ≡ option_map (sketch_of shape kids) (slice_get es i)
-  pub others : (es fs : List (K × Cached)) (q : Part) → ((i : ℕ) × (q ≡ name (handle i))) ⊎ (heap es q ≡ heap fs q)
-  pub own : (es : List (K × Cached)) (k : K) (q : Part) (s : Sketch Part) → heap es q ≡ Some s → s.shape ≡ shape k → (i : ℕ) × (q ≡ name (handle i))
+pub record HasTable {K T : Type 0} (name : T → Part) (handle : ℕ → T) (shape : K → Shape) (kids : K → List Part) (heap : List (K × Kept) → Heap Part) : Type 0 where
+  pub at : (es : List (K × Kept)) (i : ℕ) → heap es (name (handle i)) ≡ option_map (sketch_of shape kids) (slice_get es i)
+  pub others : (es fs : List (K × Kept)) (q : Part) → ((i : ℕ) × (q ≡ name (handle i))) ⊎ (heap es q ≡ heap fs q)
+  pub own : (es : List (K × Kept)) (k : K) (q : Part) (s : Sketch Part) → heap es q ≡ Some s → s.shape ≡ shape k → (i : ℕ) × (q ≡ name (handle i))
   pub told : (k l : K) → shape k ≡ shape l → kids k ≡ kids l → k ≡ l
 
-module _ {K T : Type 0} {name : T → Part} {handle : ℕ → T} {shape : K → Shape} {kids : K → List Part} {heap : List (K × Cached) → Heap Part} (table : HasTable name handle shape kids heap) where
-  pub table_adds : (es : List (K × Cached)) (e : K × Cached) → Adds (heap es) (heap (es ++ e ∷ [])) (name (handle (length es))) (sketch_of shape kids e)
+module _ {K T : Type 0} {name : T → Part} {handle : ℕ → T} {shape : K → Shape} {kids : K → List Part} {heap : List (K × Kept) → Heap Part} (table : HasTable name handle shape kids heap) where
+  pub table_adds : (es : List (K × Kept)) (e : K × Kept) → Adds (heap es) (heap (es ++ e ∷ [])) (name (handle (length es))) (sketch_of shape kids e)
   table_adds es e = record {
     before = table.at es (length es) ∙ at_end (sketch_of shape kids) es e;
     after = table.at (es ++ e ∷ []) (length es) ∙ at_new (sketch_of shape kids) es e;
@@ -292,18 +292,18 @@ module _ {K T : Type 0} {name : T → Part} {handle : ℕ → T} {shape : K → 
       ]
 
   -- where no pair has the kind, no part has its node
-  pub table_fresh : (es : List (K × Cached)) (k : K) → HasNoKey es k → (q : Part) (s : Sketch Part) → heap es q ≡ Some s → s.shape ≡ shape k → s.kids ≡ kids k → ⊥
+  pub table_fresh : (es : List (K × Kept)) (k : K) → HasNoKey es k → (q : Part) (s : Sketch Part) → heap es q ≡ Some s → s.shape ≡ shape k → s.kids ≡ kids k → ⊥
   table_fresh es k lacks q s e shapes all_kids =
       let here = table.own es k q s e shapes in
       let p = pair_of (sketch_of shape kids) (slice_get es here.0) s (sym (table.at es here.0) ∙ ap (heap es) (sym here.1) ∙ e) in
       let same : p.0.0 ≡ k = table.told p.0.0 k (ap (λ (u : Sketch Part). u.shape) p.2 ∙ shapes) (ap (λ (u : Sketch Part). u.kids) p.2 ∙ all_kids) in
       lacks here.0 (p.0.1, p.1 ∙ ap (λ j. Some (j, p.0.1)) same)
 
-  pub table_at : (es : List (K × Cached)) (i : ℕ) (k : K) (c : Cached) → slice_get es i ≡ Some (k, c) → heap es (name (handle i)) ≡ Some (sketch_of shape kids (k, c))
+  pub table_at : (es : List (K × Kept)) (i : ℕ) (k : K) (c : Kept) → slice_get es i ≡ Some (k, c) → heap es (name (handle i)) ≡ Some (sketch_of shape kids (k, c))
   table_at es i k c e = table.at es i ∙ ap (option_map (sketch_of shape kids)) e
 
 -- a live name lies within its table
-pub live_within : {K : Type 0} (f : K × Cached → Sketch Part) (es : List (K × Cached)) (i : ℕ) → is_some (option_map f (slice_get es i)) ≡ true → i < length es
+pub live_within : {K : Type 0} (f : K × Kept → Sketch Part) (es : List (K × Kept)) (i : ℕ) → is_some (option_map f (slice_get es i)) ≡ true → i < length es
 live_within f [] i h = absurd (true≢false (sym h))
 live_within f (e ∷ es) zero h = omega arith
 live_within f (e ∷ es) (suc i) h = let r = live_within f es i h in omega arith
@@ -313,18 +313,18 @@ pub pushed_or_kept : {K V R E : Type 0} (F : List (K × V) → Type 0) (r : Resu
 pushed_or_kept F (Ok x) old new e a b more same = subst F (sym a) more
 pushed_or_kept F (Err x) old new e a b more same = subst F (sym b) same
 
-pub empty_within : (k : EmptyList) (es : List (EmptyList × Cached)) (i : ℕ) → is_some (empty_at k (slice_get es i)) ≡ true → i < length es
+pub empty_within : (k : EmptyList) (es : List (EmptyList × Kept)) (i : ℕ) → is_some (empty_at k (slice_get es i)) ≡ true → i < length es
 empty_within k [] i h = absurd (true≢false (sym h))
 empty_within k (e ∷ es) zero h = omega arith
 empty_within k (e ∷ es) (suc i) h = let r = empty_within k es i h in omega arith
 
 -- the test of `holds`
-pub within_live : {K : Type 0} (f : K × Cached → Sketch Part) (es : List (K × Cached)) (i : ℕ) → i < length es → is_some (option_map f (slice_get es i)) ≡ true
+pub within_live : {K : Type 0} (f : K × Kept → Sketch Part) (es : List (K × Kept)) (i : ℕ) → i < length es → is_some (option_map f (slice_get es i)) ≡ true
 within_live f [] i h = absurd (omega arith)
 within_live f (e ∷ es) zero h = refl
 within_live f (e ∷ es) (suc i) h = within_live f es i (omega arith)
 
-pub holds_iff : {K : Type 0} (f : K × Cached → Sketch Part) (es : List (K × Cached)) (i n : ℕ) → n ≡ length es → IsTrue (nat_lt i n) ↔ (is_some (option_map f (slice_get es i)) ≡ true)
+pub holds_iff : {K : Type 0} (f : K × Kept → Sketch Part) (es : List (K × Kept)) (i n : ℕ) → n ≡ length es → IsTrue (nat_lt i n) ↔ (is_some (option_map f (slice_get es i)) ≡ true)
 holds_iff f es i n e = (
   λ t. let w : i < n = grind (arith, nat_tests) in within_live f es i (omega arith),
   λ l. let w : i < length es = live_within f es i l in let v : i < n = omega arith in grind (arith, nat_tests),
@@ -455,7 +455,7 @@ is_empty k (part.RegionAssumptions h) e = let same : empty.RegionAssumptions ≡
 is_empty k _ e = absurd cc
 
 module _ (t : Tables) where
-  heap_empty : (es : List (EmptyList × Cached)) (k : EmptyList) (i : ℕ) → heap_of (with_empty_lists t es) (empty_part k i) ≡ empty_at k (slice_get es i)
+  heap_empty : (es : List (EmptyList × Kept)) (k : EmptyList) (i : ℕ) → heap_of (with_empty_lists t es) (empty_part k i) ≡ empty_at k (slice_get es i)
   unfolding heap_of
   heap_empty es empty.GenericArgs i = refl
   heap_empty es empty.PatList i = refl
@@ -463,7 +463,7 @@ module _ (t : Tables) where
   heap_empty es empty.Clauses i = refl
   heap_empty es empty.RegionAssumptions i = refl
 
-  empty_or_other : (es fs : List (EmptyList × Cached)) (q : Part) → ((k : EmptyList) × (i : ℕ) × (q ≡ empty_part k i)) ⊎ (heap_of (with_empty_lists t es) q ≡ heap_of (with_empty_lists t fs) q)
+  empty_or_other : (es fs : List (EmptyList × Kept)) (q : Part) → ((k : EmptyList) × (i : ℕ) × (q ≡ empty_part k i)) ⊎ (heap_of (with_empty_lists t es) q ≡ heap_of (with_empty_lists t fs) q)
   unfolding heap_of
   empty_or_other es fs = elim [
     | part.GenericArgs h ↦ inl (empty.GenericArgs, h.position, refl)
@@ -475,7 +475,7 @@ module _ (t : Tables) where
   ]
 
   -- the last pair is of its sort alone
-  last_empty : (es : List (EmptyList × Cached)) (e : EmptyList × Cached) (k : EmptyList) (i : ℕ)
+  last_empty : (es : List (EmptyList × Kept)) (e : EmptyList × Kept) (k : EmptyList) (i : ℕ)
       → (empty_part k i ≡ empty_part e.0 (length es)) ⊎ (empty_at k (slice_get (es ++ e ∷ []) i) ≡ empty_at k (slice_get es i))
   last_empty es e k i = by (slice_get_push_other es e i) (nat_eq (empty_number e.0) (empty_number k)) refl
     where
@@ -488,7 +488,7 @@ module _ (t : Tables) where
           ∙ sym (ap (λ j. empty_at k (slice_get es j)) last ∙ ap (empty_at k) (slice_get_end es))
           )
 
-  pub empty_adds : (es : List (EmptyList × Cached)) (e : EmptyList × Cached) → Adds (heap_of (with_empty_lists t es)) (heap_of (with_empty_lists t (es ++ e ∷ []))) (empty_part e.0 (length es)) (sketch_of empty_shape (λ _. []) e)
+  pub empty_adds : (es : List (EmptyList × Kept)) (e : EmptyList × Kept) → Adds (heap_of (with_empty_lists t es)) (heap_of (with_empty_lists t (es ++ e ∷ []))) (empty_part e.0 (length es)) (sketch_of empty_shape (λ _. []) e)
   empty_adds es e = record {
     before = heap_empty es e.0 (length es) ∙ ap (empty_at e.0) (slice_get_end es);
     after = heap_empty (es ++ e ∷ []) e.0 (length es) ∙ ap (empty_at e.0) (slice_get_push es e) ∙ empty_here e.0 e.1;
@@ -503,13 +503,13 @@ module _ (t : Tables) where
         | inr same ↦ inr (ap (heap_of (with_empty_lists t (es ++ e ∷ []))) here.2 ∙ heap_empty (es ++ e ∷ []) here.0 here.1 ∙ same ∙ sym (heap_empty es here.0 here.1) ∙ ap (heap_of (with_empty_lists t es)) (sym here.2))
       ]
 
-  pub empty_fresh : (es : List (EmptyList × Cached)) (k : EmptyList) → HasNoKey es k → (q : Part) (s : Sketch Part) → heap_of (with_empty_lists t es) q ≡ Some s → s.shape ≡ empty_shape k → s.kids ≡ [] → ⊥
+  pub empty_fresh : (es : List (EmptyList × Kept)) (k : EmptyList) → HasNoKey es k → (q : Part) (s : Sketch Part) → heap_of (with_empty_lists t es) q ≡ Some s → s.shape ≡ empty_shape k → s.kids ≡ [] → ⊥
   empty_fresh es k lacks q s e shapes kids =
       let here = is_empty k q (sym (sorted (with_empty_lists t es) q s e) ∙ ap shape_sort shapes ∙ empty_word_sort k) in
       let p = empty_pair k (slice_get es here.0) s (sym (heap_empty es k here.0) ∙ ap (heap_of (with_empty_lists t es)) (sym here.1) ∙ e) in
       lacks here.0 (p.0, p.1)
 
-  pub empty_stands : (es : List (EmptyList × Cached)) (i : ℕ) (k : EmptyList) (c : Cached) → slice_get es i ≡ Some (k, c) → heap_of (with_empty_lists t es) (empty_part k i) ≡ Some (sketch_of empty_shape (λ _. []) (k, c))
+  pub empty_stands : (es : List (EmptyList × Kept)) (i : ℕ) (k : EmptyList) (c : Kept) → slice_get es i ≡ Some (k, c) → heap_of (with_empty_lists t es) (empty_part k i) ≡ Some (sketch_of empty_shape (λ _. []) (k, c))
   empty_stands es i k c e = heap_empty es k i ∙ ap (empty_at k) e ∙ empty_here k c
 
 -- ---- tables with no pairs

@@ -1,5 +1,5 @@
 -- What `new` answers for one sort, whatever its kinds are: what its table's heap says of it is the record IsSort.
-use Rattle.std.proofs.Common.{◌≡◌, ℕ, ◌+◌, ◌<◌, ◌≤◌, List, [], ◌∷◌, ◌++◌, length, slice_get, Result, Ok, Err, IfErr, Option, None, Some, ◌⊎◌, inl, inr, refl, sym, ap, ◌∙◌, is_some, true≢false, arith}
+use Rattle.std.proofs.Common.{◌≡◌, ℕ, ◌+◌, ◌<◌, ◌≤◌, List, [], ◌∷◌, ◌++◌, length, slice_get, Result, Ok, Err, Option, None, Some, ◌⊎◌, inl, inr, refl, sym, ap, ◌∙◌, is_some, true≢false, arith}
 use Rattle.std.proofs.lemmas.Option.{none-some, same_Some}
 use Rattle.std.specs.Option.{option_map}
 use Rattle.std.specs.Result.{OnOk, OnErr}
@@ -8,7 +8,7 @@ use Rattle.ir_laws.specs.Heap.{Shape, Sketch, Each, IsLive, IsSound, Adds, HasNo
 use Rattle.ir_laws.specs.Held.{Counts}
 use Rattle.ir_core.specs.declared.errors.TermError.{TermError}
 use Rattle.ir_core.specs.declared.handles.Part.{Part}
-use Rattle.ir_table.specs.declared.parts.Cached.{Cached}
+use Rattle.ir_table.specs.declared.parts.Kept.{Kept}
 use Rattle.ir_table.specs.Kinds.{sketch}
 use Rattle.ir_laws.proofs.HeapLemmas.{sound_after, has_node, extends, grows, live_only, live_at, cached_height_at}
 use Rattle.ir_laws.proofs.HeldLemmas.{counts_after}
@@ -18,12 +18,12 @@ use Rattle.ir_table.specs.State.{State, IsNew, IsLow, Forbids, NewAnswers, capac
 use Rattle.ir_table.proofs.StateLemmas.{is_new, answers_held, answers_too_many, answers_too_deep, answers_memory, answers_new}
 
 -- `put es` is the state with es as the sort's table, and `handle i` names the pair at i; a name may go by the kind
-pub record IsSort {K T : Type 0} (name : K → T → Part) (handle : ℕ → T) (shape : K → Shape) (kids : K → List Part) (put : List (K × Cached) → State) : Type 0 where
-  pub adds : (es : List (K × Cached)) (e : K × Cached) → Adds (put es).heap (put (es ++ e ∷ [])).heap (name e.0 (handle (length es))) (sketch (shape e.0) (kids e.0) e.1)
-  pub fresh : (es : List (K × Cached)) (k : K) → HasNoKey es k → (q : Part) (t : Sketch Part) → (put es).heap q ≡ Some t → t.shape ≡ shape k → t.kids ≡ kids k → ⊥
-  pub at : (es : List (K × Cached)) (i : ℕ) (k : K) (c : Cached) → slice_get es i ≡ Some (k, c) → (put es).heap (name k (handle i)) ≡ Some (sketch (shape k) (kids k) c)
-  pub count : (es : List (K × Cached)) (e : K × Cached) → (put (es ++ e ∷ [])).count ≡ (put es).count + 1
-  pub limits : (es fs : List (K × Cached)) → (put es).limits ≡ (put fs).limits
+pub record IsSort {K T : Type 0} (name : K → T → Part) (handle : ℕ → T) (shape : K → Shape) (kids : K → List Part) (put : List (K × Kept) → State) : Type 0 where
+  pub adds : (es : List (K × Kept)) (e : K × Kept) → Adds (put es).heap (put (es ++ e ∷ [])).heap (name e.0 (handle (length es))) (sketch (shape e.0) (kids e.0) e.1)
+  pub fresh : (es : List (K × Kept)) (k : K) → HasNoKey es k → (q : Part) (t : Sketch Part) → (put es).heap q ≡ Some t → t.shape ≡ shape k → t.kids ≡ kids k → ⊥
+  pub at : (es : List (K × Kept)) (i : ℕ) (k : K) (c : Kept) → slice_get es i ≡ Some (k, c) → (put es).heap (name k (handle i)) ≡ Some (sketch (shape k) (kids k) c)
+  pub count : (es : List (K × Kept)) (e : K × Kept) → (put (es ++ e ∷ [])).count ≡ (put es).count + 1
+  pub limits : (es fs : List (K × Kept)) → (put es).limits ≡ (put fs).limits
 
 -- what stands in the tables, and within which bounds
 pub record IsKept (s : State) : Type 0 where
@@ -32,25 +32,25 @@ pub record IsKept (s : State) : Type 0 where
   pub few : s.count ≤ capacity s
   pub low : IsLow s
 
-module _ {K T : Type 0} {name : K → T → Part} {handle : ℕ → T} {shape : K → Shape} {kids : K → List Part} {put : List (K × Cached) → State}
-    (sort : IsSort name handle shape kids put) (es : List (K × Cached)) (sound : IsSound (put es).heap) where
+module _ {K T : Type 0} {name : K → T → Part} {handle : ℕ → T} {shape : K → Shape} {kids : K → List Part} {put : List (K × Kept) → State}
+    (sort : IsSort name handle shape kids put) (es : List (K × Kept)) (sound : IsSound (put es).heap) where
   -- `kind`
-  pub node_at : (i : ℕ) (k : K) (c : Cached) → slice_get es i ≡ Some (k, c) → HasNode (put es).heap (name k (handle i)) (shape k) (kids k)
+  pub node_at : (i : ℕ) (k : K) (c : Kept) → slice_get es i ≡ Some (k, c) → HasNode (put es).heap (name k (handle i)) (shape k) (kids k)
   node_at i k c e = has_node (put es).heap sound (name k (handle i)) (sketch (shape k) (kids k) c) (sort.at es i k c e)
 
   -- `as_slice`, which sees the list alone
-  pub node_at_list : (i : ℕ) (k : K) → option_map (λ (e : K × Cached). e.0) (slice_get es i) ≡ Some k → HasNode (put es).heap (name k (handle i)) (shape k) (kids k)
+  pub node_at_list : (i : ℕ) (k : K) → option_map (λ (e : K × Kept). e.0) (slice_get es i) ≡ Some k → HasNode (put es).heap (name k (handle i)) (shape k) (kids k)
   node_at_list i k e = by (slice_get es i) refl
     where
-      by : (o : Option (K × Cached)) → slice_get es i ≡ o → HasNode (put es).heap (name k (handle i)) (shape k) (kids k)
-      by None f = let bad : None ≡ Some k = sym (ap (option_map (λ (e : K × Cached). e.0)) f) ∙ e in absurd (none-some k bad)
+      by : (o : Option (K × Kept)) → slice_get es i ≡ o → HasNode (put es).heap (name k (handle i)) (shape k) (kids k)
+      by None f = let bad : None ≡ Some k = sym (ap (option_map (λ (e : K × Kept). e.0)) f) ∙ e in absurd (none-some k bad)
       by (Some p) f =
-          let same : Some p.0 ≡ Some k = sym (ap (option_map (λ (e : K × Cached). e.0)) f) ∙ e in
+          let same : Some p.0 ≡ Some k = sym (ap (option_map (λ (e : K × Kept). e.0)) f) ∙ e in
           node_at i k p.1 (f ∙ ap (λ j. Some (j, p.1)) (same_Some p.0 k same))
 
 -- what `new` answers of a kind over live kids, where the tables were kept well
-module _ {K T : Type 0} {name : K → T → Part} {handle : ℕ → T} {shape : K → Shape} {kids : K → List Part} {put : List (K × Cached) → State}
-    (sort : IsSort name handle shape kids put) (es : List (K × Cached)) (kept : IsKept (put es)) (k : K) (live : Each (IsLive (put es).heap) (kids k)) where
+module _ {K T : Type 0} {name : K → T → Part} {handle : ℕ → T} {shape : K → Shape} {kids : K → List Part} {put : List (K × Kept) → State}
+    (sort : IsSort name handle shape kids put) (es : List (K × Kept)) (kept : IsKept (put es)) (k : K) (live : Each (IsLive (put es).heap) (kids k)) where
   pub new_held : (i : ℕ) → StandsAt es k i → NewAnswers (name k) (put es) (put es) (shape k) (kids k) (Ok (handle i))
   new_held i s =
       let at = sort.at es i k s.0 s.1 in
@@ -67,7 +67,7 @@ module _ {K T : Type 0} {name : K → T → Part} {handle : ℕ → T} {shape : 
     new_is : IsNew (put es) (shape k) (kids k)
     new_is = is_new (name k) (put es) kept.sound (shape k) (kids k) live (sort.fresh es k absent)
 
-    pub new_memory : (fs : List (K × Cached)) → fs ≡ es → (r : Result T TermError) → r ≡ Err error.Memory → NewAnswers (name k) (put es) (put fs) (shape k) (kids k) r
+    pub new_memory : (fs : List (K × Kept)) → fs ≡ es → (r : Result T TermError) → r ≡ Err error.Memory → NewAnswers (name k) (put es) (put fs) (shape k) (kids k) r
     new_memory fs same r e = rw e (answers_memory (name k) (put es) kept.sound (shape k) (kids k) live (put fs) (ap put same) (λ _. new_is))
 
     -- h and n are the height and the size of the node
@@ -83,7 +83,7 @@ module _ {K T : Type 0} {name : K → T → Part} {handle : ℕ → T} {shape : 
       pub new_forbidden : (e : TermError) → Forbids (put es) h e → (r : Result T TermError) → r ≡ Err e → NewAnswers (name k) (put es) (put es) (shape k) (kids k) r
       new_forbidden e f r is = rw is (forbidden e f)
 
-      module _ (room : (put es).count < capacity (put es)) (low : h ≤ highest (put es)) (c : Cached) (cached : (c.height ≡ h) × (c.size ≡ n)) where
+      module _ (room : (put es).count < capacity (put es)) (low : h ≤ highest (put es)) (c : Kept) (cached : (c.height ≡ h) × (c.size ≡ n)) where
         height : c.height ≡ height_above (put es).heap (kids k)
         height = cached.0 ∙ height_is
 
@@ -94,7 +94,7 @@ module _ {K T : Type 0} {name : K → T → Part} {handle : ℕ → T} {shape : 
         pushed_sound = sound_after (put es).heap (put (es ++ (k, c) ∷ [])).heap kept.sound (name k (handle (length es))) (sketch (shape k) (kids k) c)
             (sort.adds es (k, c)) live height size (sort.fresh es k absent)
 
-        pub new_made : (fs : List (K × Cached)) (i : ℕ) → fs ≡ es ++ (k, c) ∷ [] → i ≡ length es → NewAnswers (name k) (put es) (put fs) (shape k) (kids k) (Ok (handle i))
+        pub new_made : (fs : List (K × Kept)) (i : ℕ) → fs ≡ es ++ (k, c) ∷ [] → i ≡ length es → NewAnswers (name k) (put es) (put fs) (shape k) (kids k) (Ok (handle i))
         new_made fs i made at_end = rw (made, at_end) (answers_new (name k) (put es) kept.sound (shape k) (kids k) live (put (es ++ (k, c) ∷ [])) (handle (length es)) (sketch (shape k) (kids k) c)
             (sort.adds es (k, c)) pushed_sound refl refl (sort.count es (k, c)) (sort.limits _ _) room (omega (arith, height_is)) new_is)
 
@@ -128,5 +128,5 @@ module _ {K T : Type 0} {name : K → T → Part} {handle : ℕ → T} {shape : 
             record { sound = pushed_sound; counted = rw n pushed_counted; few = omega arith; low = pushed_low }
 
         -- the tables after a push that may fail
-        pub after_push : {R E : Type 0} → (r : Result R E) (fs : List (K × Cached)) → OnOk r (fs ≡ es ++ (k, c) ∷ []) → OnErr r (fs ≡ es) → IsKept (put fs)
+        pub after_push : {R E : Type 0} → (r : Result R E) (fs : List (K × Kept)) → OnOk r (fs ≡ es ++ (k, c) ∷ []) → OnErr r (fs ≡ es) → IsKept (put fs)
         after_push r fs ok err = pushed_or_kept (λ gs. IsKept (put gs)) r es fs (k, c) ok err pushed_kept kept

@@ -1,16 +1,8 @@
 -- The sorts.
-use Rattle.std.proofs.Common.{◌+◌, List, [], refl, arith}
+use Rattle.std.proofs.Common.{[], refl, arith}
 use Rattle.std.proofs.lemmas.List.{length_push}
-use Rattle.ir_core.specs.declared.handles.Ty.{Ty}
 use Rattle.ir_core.specs.declared.limit.Limits.{Limits}
-use Rattle.ir_core.specs.declared.kinds.TyKind.{TyKind}
-use Rattle.ir_core.specs.declared.kinds.ConstKind.{ConstKind}
-use Rattle.ir_core.specs.declared.kinds.RegionKind.{RegionKind}
-use Rattle.ir_core.specs.declared.kinds.BoundVarKind.{BoundVarKind}
-use Rattle.ir_core.specs.declared.kinds.Variance.{Variance}
 use Rattle.ir_core.specs.declared.handles.Part.TheVariants as part
-use Rattle.ir_table.specs.declared.parts.Cached.{Cached}
-use Rattle.ir_table.specs.declared.store.EmptyList.{EmptyList}
 use Rattle.ir_table.specs.declared.store.Store.{Store}
 use Rattle.ir_table.specs.declared.store.Tables.{Tables}
 use Rattle.ir_table.specs.Kinds.{ty_shape, const_shape, region_shape, tys_shape, variables_shape, variances_shape, empty_shape, empty_part, ty_kids, tys_kids}

@@ -1,5 +1,5 @@
 -- What `new` answers, in each of its ends.
-use Rattle.std.proofs.Common.{◌≡◌, ◌+◌, ◌<◌, ◌≤◌, inl, inr, List, Ok, Err, Some, is_some, length, if◌then◌else◌, refl, sym, ap, ◌∙◌, arith}
+use Rattle.std.proofs.Common.{◌≡◌, ◌+◌, ◌<◌, ◌≤◌, inl, inr, List, Ok, Err, Some, is_some, if◌then◌else◌, refl, sym, ap, ◌∙◌, arith}
 use Rattle.ir_laws.specs.Heap.{Shape, Sketch, Each, IsLive, IsSound, Adds, Holds, height_above}
 use Rattle.ir_core.specs.declared.handles.Part.{Part}
 use Rattle.ir_laws.proofs.HeapLemmas.{held_node, interns_held, interns_new}

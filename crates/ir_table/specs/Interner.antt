@@ -1,10 +1,13 @@
 -- The tables of an interner as a state.
-use Rattle.std.specs.Prelude.{◌≡◌, ℕ, ◌+◌, ◌-◌, ◌^◌, min}
+use Rattle.std.specs.Prelude.{◌≡◌, ℕ, ◌+◌, ◌-◌, ◌^◌, min, List}
 use Rattle.ir_core.specs.declared.handles.Part.{Part}
+use Rattle.ir_core.specs.declared.handles.Part.TheVariants as part
+use Rattle.ir_core.specs.declared.handles.Ty.{Ty}
+use Rattle.ir_core.specs.declared.handles.Tys.{Tys}
 use Rattle.ir_core.specs.declared.limit.Limits.{Limits as GivenLimits}
-use Rattle.ir_laws.specs.Heap.{Heap}
+use Rattle.ir_laws.specs.Heap.{HasNode, Heap}
 use Rattle.ir_table.specs.Count.{count_of}
-use Rattle.ir_table.specs.Kinds.{heap_of}
+use Rattle.ir_table.specs.Kinds.{heap_of, tys_shape, tys_kids}
 use Rattle.ir_table.specs.Limits.{limits_seen}
 use Rattle.ir_table.specs.declared.Interner.{Interner}
 use Rattle.ir_table.specs.declared.store.Store.{Store}
@@ -33,3 +36,7 @@ rises n = min (n + 1) (2 ^ 64 - 1)
 
 abbrev pub Asks : (old new : Interner) → Type 0
 Asks old new = asked new ≡ rises (asked old)
+
+-- the handle's list has these types
+abbrev pub HasTypes : Interner → Tys → List Ty → Type 0
+HasTypes cx tys all = HasNode (heap cx) (part.Tys tys) (tys_shape all) (tys_kids all)

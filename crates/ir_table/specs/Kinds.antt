@@ -33,7 +33,7 @@ use Rattle.ir_core.specs.declared.handles.Part.TheVariants as part
 use Rattle.ir_table.specs.declared.store.EmptyList.{EmptyList}
 use Rattle.ir_table.specs.declared.store.EmptyList.TheVariants as empty
 use Rattle.ir_table.specs.declared.store.Tables.{Tables}
-use Rattle.ir_table.specs.declared.parts.Cached.{Cached}
+use Rattle.ir_table.specs.declared.parts.Kept.{Kept}
 use Rattle.ir_table.specs.declared.parts.Field.{Field}
 use Rattle.ir_table.specs.declared.parts.Field.TheVariants as field
 use Rattle.ir_table.specs.declared.parts.Fields.{Fields as NodeFields}
@@ -252,33 +252,33 @@ empty_part empty.RegionAssumptions i = part.RegionAssumptions (record { position
 -- ---- the heap
 
 -- the nodes that the pairs of the tables stand for
-abbrev pub sketch : Shape → List Part → Cached → Sketch Part
+abbrev pub sketch : Shape → List Part → Kept → Sketch Part
 sketch s kids c = record { shape = s; kids = kids; height = c.height; size = c.size }
 
 -- the node of a pair, by its key
-abbrev pub sketch_of : {K : Type 0} → (K → Shape) → (K → List Part) → K × Cached → Sketch Part
+abbrev pub sketch_of : {K : Type 0} → (K → Shape) → (K → List Part) → K × Kept → Sketch Part
 sketch_of shape kids e = sketch (shape e.0) (kids e.0) e.1
 
-abbrev pub ty_sketch : TyKind × Cached → Sketch Part
+abbrev pub ty_sketch : TyKind × Kept → Sketch Part
 ty_sketch = sketch_of ty_shape ty_kids
 
-abbrev pub const_sketch : ConstKind × Cached → Sketch Part
+abbrev pub const_sketch : ConstKind × Kept → Sketch Part
 const_sketch = sketch_of const_shape (λ _. [])
 
-abbrev pub region_sketch : RegionKind × Cached → Sketch Part
+abbrev pub region_sketch : RegionKind × Kept → Sketch Part
 region_sketch = sketch_of region_shape (λ _. [])
 
-abbrev pub tys_sketch : List Ty × Cached → Sketch Part
+abbrev pub tys_sketch : List Ty × Kept → Sketch Part
 tys_sketch = sketch_of tys_shape tys_kids
 
-abbrev pub variables_sketch : List BoundVarKind × Cached → Sketch Part
+abbrev pub variables_sketch : List BoundVarKind × Kept → Sketch Part
 variables_sketch = sketch_of variables_shape (λ _. [])
 
-abbrev pub variances_sketch : List Variance × Cached → Sketch Part
+abbrev pub variances_sketch : List Variance × Kept → Sketch Part
 variances_sketch = sketch_of variances_shape (λ _. [])
 
 -- the empty list of a sort, where the pair is of that sort
-abbrev pub empty_at : EmptyList → Option (EmptyList × Cached) → Option (Sketch Part)
+abbrev pub empty_at : EmptyList → Option (EmptyList × Kept) → Option (Sketch Part)
 empty_at k None = None
 empty_at k (Some e) = if nat_eq (empty_number e.0) (empty_number k) then Some (sketch_of empty_shape (λ _. []) e) else None
 

@@ -1,16 +1,20 @@
 -- What callers may rely on at any moment of an interner.
-use Rattle.std.specs.Prelude.{◌≡◌, ◌↔◌, List, length}
+use Rattle.std.specs.Prelude.{◌≡◌, ◌↔◌, List, length, Result}
+use Rattle.ir_core.specs.declared.errors.TermError.{TermError}
+use Rattle.ir_core.specs.declared.handles.BoundVarKinds.{BoundVarKinds}
 use Rattle.ir_core.specs.declared.handles.Const.{Const}
 use Rattle.ir_core.specs.declared.handles.Part.{Part}
 use Rattle.ir_core.specs.declared.handles.Part.TheVariants as part
 use Rattle.ir_core.specs.declared.handles.Region.{Region}
 use Rattle.ir_core.specs.declared.handles.Ty.{Ty}
 use Rattle.ir_core.specs.declared.handles.Tys.{Tys}
-use Rattle.ir_laws.specs.Heap.{IsLive, tree_of}
+use Rattle.ir_core.specs.declared.handles.VariancesOf.{VariancesOf}
+use Rattle.ir_laws.specs.Heap.{Grows, IsLive, Shape, tree_of}
 use Rattle.ir_laws.specs.Held.{HoldsJust}
 use Rattle.ir_laws.specs.Tree.{Term}
 use Rattle.ir_table.specs.declared.Interner.{Interner}
 use Rattle.ir_table.specs.Interner.{heap, state}
+use Rattle.ir_table.specs.State.{NewAnswers}
 
 -- two live handles of one sort, which names parts, are equal exactly where their trees are
 abbrev pub AreTold : {T : Type 0} → (T → Part) → Type 0
@@ -35,3 +39,25 @@ PartsAreTold = AreTold {T = Part} (λ p. p)
 -- the number of parts is the length of the set of trees that are held
 abbrev pub PartsAreCounted : Type 0
 PartsAreCounted = (cx : Interner) (ts : List Term) → HoldsJust (heap cx) ts → (state cx).count ≡ length ts
+
+-- whatever a call answers that makes a handle of one sort, which names parts, older parts stay as they are
+abbrev pub OnlyAdds : {T : Type 0} → (T → Part) → Type 0
+OnlyAdds {T} name = (old new : Interner) (shape : Shape) (kids : List Part) (r : Result T TermError) → NewAnswers name (state old) (state new) shape kids r → Grows (heap old) (heap new)
+
+abbrev pub TypesOnlyAdd : Type 0
+TypesOnlyAdd = OnlyAdds {T = Ty} part.Ty
+
+abbrev pub ConstantsOnlyAdd : Type 0
+ConstantsOnlyAdd = OnlyAdds {T = Const} part.Const
+
+abbrev pub RegionsOnlyAdd : Type 0
+RegionsOnlyAdd = OnlyAdds {T = Region} part.Region
+
+abbrev pub TypeListsOnlyAdd : Type 0
+TypeListsOnlyAdd = OnlyAdds {T = Tys} part.Tys
+
+abbrev pub VariableListsOnlyAdd : Type 0
+VariableListsOnlyAdd = OnlyAdds {T = BoundVarKinds} part.BoundVarKinds
+
+abbrev pub VarianceListsOnlyAdd : Type 0
+VarianceListsOnlyAdd = OnlyAdds {T = VariancesOf} part.VariancesOf

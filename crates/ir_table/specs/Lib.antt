@@ -8,4 +8,5 @@ pub mod Spelled
 pub mod State
 pub mod Start
 pub mod Interner
+pub mod Iterated
 pub mod Laws

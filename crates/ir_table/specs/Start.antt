@@ -1,5 +1,5 @@
 -- The handles of the start, each with its tree.
-use Rattle.std.specs.Prelude.{◌≡◌, Bool, true, ◌&&◌, List, [], ◌∷◌, ◌++◌, map, is_some}
+use Rattle.std.specs.Prelude.{◌≡◌, Bool, ◌&&◌, List, [], ◌∷◌, ◌++◌, map, is_some}
 use Rattle.std.specs.List.{list_all}
 use Rattle.ir_core.specs.declared.errors.TermError.{TermError}
 use Rattle.ir_core.specs.declared.errors.TermError.TheVariants as error
@@ -16,7 +16,7 @@ use Rattle.ir_core.specs.declared.handles.Part.TheVariants as part
 use Rattle.ir_laws.specs.declared.labels.Keyword.TheVariants.{Not, Mut, Invariant, Covariant}
 use Rattle.ir_laws.specs.declared.labels.Sort.TheVariants.{OfRegion}
 use Rattle.ir_laws.specs.declared.words.Word.TheVariants.{BoolType, CharType, StrType, NeverType, I8Type, I16Type, I32Type, I64Type, I128Type, ISizeType, U8Type, U16Type, U32Type, U64Type, U128Type, USizeType, F16Type, F32Type, F64Type, F128Type, ErrorType, PointerType, ReferenceType, StaticRegion, ErasedRegion, ErrorRegion, ErrorConstant, TypeList, ArgumentList, PatternList, ExistentialList, ClauseList, VariableList, VarianceList, AssumptionList}
-use Rattle.ir_laws.specs.Heap.{Heap, IsLive, Each, tree_of}
+use Rattle.ir_laws.specs.Heap.{Heap, IsLive, tree_of}
 use Rattle.ir_laws.specs.Parts.{variable_list}
 use Rattle.ir_laws.specs.Same.{same_term}
 use Rattle.ir_laws.specs.Held.{HoldsJust}

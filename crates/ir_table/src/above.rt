@@ -5,7 +5,7 @@ ghost use Rattle.ir_core.specs.declared.handles.Part.TheVariants as part;
 ghost use Rattle.std.specs.Prelude.{◌≡◌, ◌+◌, ◌<◌, ◌≤◌, ◌^◌, Some, length, max, min, slice_get};
 ghost use Rattle.std.specs.Option.{option_map};
 
-use crate::parts::{Cached, Kids, Node};
+use crate::parts::{Kept, Kids, Node};
 use crate::store::Store;
 use bitflags::Flags;
 use ir_core::{Part, Ty, TypeFlags};
@@ -57,7 +57,7 @@ impl Above {
 
 impl Store {
     // What is kept beside the part's node.
-    pub(crate) fn cached(&self, part: Part) -> Cached
+    pub(crate) fn cached(&self, part: Part) -> Kept
         requires { IsLive (heap_of self.now.tables) part }
         ensures { (result.height ≡ cached_height (heap_of self.now.tables) part) × (result.size ≡ cached_size (heap_of self.now.tables) part) }
     {
@@ -78,7 +78,7 @@ impl Store {
     }
 
     // What is kept beside the empty list at the position.
-    fn cached_empty(&self, position: u32) -> Cached
+    fn cached_empty(&self, position: u32) -> Kept
         requires { position < length self.now.tables.empty_lists }
         ensures { option_map (λ e. e.1) (slice_get self.now.tables.empty_lists position) ≡ Some result }
     {

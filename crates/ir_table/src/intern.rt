@@ -1,12 +1,19 @@
 //! What the sorts of parts have in common.
 ghost use Rattle.ir_laws.specs.Heap.{Shape, Each, IsLive, HasNode};
 ghost use Rattle.ir_table.specs.Interner.{Asks, heap, state};
+ghost use Rattle.ir_table.specs.Iterated.{AsksItems, AsksItemsOrErr, GivesLive, GivesLiveOrErr};
 ghost use Rattle.ir_table.specs.State.{NewAnswers};
 ghost use Rattle.ir_core.specs.declared.handles.Part.{Part};
+ghost use Rattle.std.specs.Iterator.{IsFinite};
+ghost use Rattle.std.specs.Iterator.Adapters.{copied_source};
 ghost use Rattle.std.specs.Prelude.{◌≡◌, ◌↔◌, [], length, List, IsTrue};
+ghost use Rattle.std.specs.Slice.Iter.{iter_rest};
 
 use crate::Interner;
 use ir_core::{DebruijnIndex, Part, R, WithCachedTypeInfo};
+use std::alloc::Global;
+use std::iter::Copied;
+use std::slice::Iter;
 
 /// A handle, which names a part.
 pub trait Handle: Copy {
@@ -79,10 +86,51 @@ pub trait InternList: Handle {
         ensures answers { NewAnswers Self.part (state cx.old) (state cx.new) (list_shape items.now) (list_kids items.now) result }
         ensures asked { Asks cx.old cx.new };
 
+    /// The handle of the list of the iterator's items, which are read into memory first. Where there is none, nothing changes.
+    fn new_from_iter<I: Iterator<Item = Self::Item>>(
+        alloc: Global,
+        cx: &mut Interner,
+        items: I,
+    ) -> R<Self>
+        requires can { I.can_next items }
+        requires finite { IsFinite (I.remaining items) }
+        requires live { GivesLive list_kids cx.old I.next_gives items }
+        ensures { AsksItems Self.part list_shape list_kids cx.old cx.new I.next_gives items result }
+    {
+        let items: Vec<Self::Item> = items.collect(alloc)?;
+        Self::new_from_slice(cx, items.as_slice())
+    }
+
+    /// The same of an iterator whose items may be refusals. The first one is the answer; then no list is made, and nothing changes.
+    fn try_new_from_iter<I: Iterator<Item = R<Self::Item>>>(
+        alloc: Global,
+        cx: &mut Interner,
+        items: I,
+    ) -> R<Self>
+        requires can { I.can_next items }
+        requires finite { IsFinite (I.remaining items) }
+        requires live { GivesLiveOrErr list_kids cx.old I.next_gives items }
+        ensures { AsksItemsOrErr Self.part list_shape list_kids cx.old cx.new I.next_gives items result }
+    {
+        let mut all: Vec<Self::Item> = Vec::new(alloc);
+        for item in items {
+            all.push(item?)?;
+        }
+        Self::new_from_slice(cx, all.as_slice())
+    }
+
     /// The items that were put in.
     fn as_slice<'a>(self, cx: &'a Interner) -> &'a [Self::Item]
         requires { IsLive (heap cx.now) (Self.part self) }
         ensures { HasNode (heap cx.now) (Self.part self) (list_shape result.now) (list_kids result.now) };
+
+    /// The items that were put in, in order.
+    fn iter<'a>(self, cx: &'a Interner) -> Copied<Iter<'a, Self::Item>>
+        requires { IsLive (heap cx.now) (Self.part self) }
+        ensures { let items = iter_rest (copied_source result) in HasNode (heap cx.now) (Self.part self) (list_shape items) (list_kids items) }
+    {
+        self.as_slice(cx).iter().copied()
+    }
 
     /// How many items there are.
     fn len(self, cx: &Interner) -> usize

@@ -2,6 +2,7 @@
 #![tactic(auto)]
 
 mod above;
+mod cached;
 mod constants;
 mod exact;
 mod intern;
@@ -27,18 +28,20 @@ ghost use Rattle.ir_table.specs.Kinds.{heap_of};
 ghost use Rattle.ir_table.specs.Start.{are_named};
 ghost use Rattle.std.specs.Prelude.{◌≡◌, true};
 
+pub use cached::Cached;
 pub use exact::Exact;
 pub use intern::{Handle, Intern, InternList};
 use ir_core::{DefaultAny, Limits, Part};
 pub use join::{AnyKind, kind_of};
-pub use laws::{equal_handles, parts_are_counted};
+pub use laws::{equal_handles, interning_only_adds, parts_are_counted};
 pub use list_table::{ListKey, ListTable};
 pub use names::{Names, NoNames};
-pub use parts::{Cached, Field, Fields, Kids, Node};
+pub use parts::{Field, Fields, Kept, Kids, Node};
 pub use spelling::spell;
 pub use store::EmptyList;
 use store::{Store, Tables};
 pub use table::Table;
+pub use type_lists::{inputs, output};
 
 /// All terms, and the limits of these: each part is held once, and its handle is its place in the table of its sort.
 #[derive(Drop)]

@@ -4,7 +4,7 @@ use ir_laws::{Keyword, Word};
 
 /// What the tables keep beside each node.
 #[derive(Clone, Copy, PartialEq, Eq, Debug)]
-pub struct Cached {
+pub struct Kept {
     /// A leaf has height 1, another node one more than its highest kid.
     pub height: u32,
     /// The size of the tree, which ends at 2^48 + 1.

@@ -11,7 +11,7 @@ ghost use Rattle.ir_laws.proofs.HeldLemmas.{Counts-prop};
 ghost use Rattle.std.specs.Prelude.{◌≤◌};
 
 use crate::above::Above;
-use crate::{Cached, ListTable, Table};
+use crate::{Kept, ListTable, Table};
 use ir_core::{BoundVarKind, ConstKind, Limits, R, RegionKind, TermError, Ty, TyKind, Variance};
 use smallvec::SmallVec;
 use std::alloc::Global;
@@ -29,13 +29,13 @@ pub enum EmptyList {
 /// A table for each sort of parts.
 #[derive(Drop)]
 pub(crate) struct Tables {
-    pub(crate) tys: Table<TyKind, Cached>,
-    pub(crate) consts: Table<ConstKind, Cached>,
-    pub(crate) regions: Table<RegionKind, Cached>,
-    pub(crate) type_lists: ListTable<SmallVec<Ty, 8>, Cached>,
-    pub(crate) variable_lists: ListTable<SmallVec<BoundVarKind, 8>, Cached>,
-    pub(crate) variance_lists: ListTable<SmallVec<Variance, 8>, Cached>,
-    pub(crate) empty_lists: Table<EmptyList, Cached>,
+    pub(crate) tys: Table<TyKind, Kept>,
+    pub(crate) consts: Table<ConstKind, Kept>,
+    pub(crate) regions: Table<RegionKind, Kept>,
+    pub(crate) type_lists: ListTable<SmallVec<Ty, 8>, Kept>,
+    pub(crate) variable_lists: ListTable<SmallVec<BoundVarKind, 8>, Kept>,
+    pub(crate) variance_lists: ListTable<SmallVec<Variance, 8>, Kept>,
+    pub(crate) empty_lists: Table<EmptyList, Kept>,
 }
 
 /// The tables with their limits, before and after the parts of the start are there.
@@ -99,7 +99,7 @@ impl Store {
     }
 
     /// What is kept beside a node that isn't held, where it may be put in: it is too deep where its height passes the limit, and else one too many where the tables are full.
-    pub(crate) fn admit(&self, above: Above) -> R<Cached>
+    pub(crate) fn admit(&self, above: Above) -> R<Kept>
         ensures ok { IfOk result (λ c. (c.height ≡ above.height) × (c.size ≡ above.size)) }
         ensures low { OnOk result (above.height ≤ highest (stored self.now)) }
         ensures room { OnOk result ((stored self.now).count < capacity (stored self.now)) }
@@ -112,7 +112,7 @@ impl Store {
         if self.len() >= self.limits.nodes.min(MOST_NODES) {
             return Err(TermError::TooMany);
         }
-        Ok(Cached {
+        Ok(Kept {
             height: above.height as u32,
             size: above.size,
             flags: above.flags,

@@ -1,5 +1,11 @@
 //! Each table at types that it is used with, and an interner over them.
-use crate::{Exact, Intern, InternList, Interner, ListKey, ListTable, Table};
+ghost use Rattle.ir_core.specs.declared.handles.Part.TheVariants as part;
+ghost use Rattle.ir_laws.specs.Heap.{IsLive};
+ghost use Rattle.ir_table.specs.Interner.{heap};
+
+use crate::{
+    Cached, Exact, Intern, InternList, Interner, ListKey, ListTable, Table, inputs, output,
+};
 use ir_core::{
     BoundRegionKind, BoundVarKind, BoundVarKinds, Const, ConstKind, ErrorGuaranteed, IntTy, Limits,
     Mutability, R, TermError, Ty, TyKind, TypeFlags, Tys, Variance, VariancesOf,
@@ -165,6 +171,22 @@ fn after_a_list_made_twice(alloc: Global) -> R<(u64, u64)> {
     Ok((cx.asked(), cx.len()))
 }
 
+/// Whether a list is held with its items, and no list where none was put.
+fn list_is_held(alloc: Global) -> R<bool> {
+    let mut cx = Interner::new(alloc, room_for(40))?;
+    let bool = Ty::new(&mut cx, TyKind::Bool)?;
+    let list = Tys::new_from_slice(&mut cx, &[bool, bool])?;
+    Ok(list.holds(&cx) && !Tys { position: 2 }.holds(&cx) && list.len(&cx) == 2)
+}
+
+/// Whether a type has the kind that was put in.
+fn kind_is_given_back(alloc: Global) -> R<bool> {
+    let mut cx = Interner::new(alloc, room_for(39))?;
+    let list = Tys::new_from_slice(&mut cx, &[])?;
+    let unit = Ty::new(&mut cx, TyKind::Tuple(list))?;
+    Ok(unit.kind(&cx) == TyKind::Tuple(list))
+}
+
 /// What a making call answers where the tables are full.
 fn one_too_many(alloc: Global) -> R<Ty> {
     let mut cx = Interner::new(alloc, room_for(39))?;
@@ -175,6 +197,102 @@ fn one_too_many(alloc: Global) -> R<Ty> {
 #[test]
 fn a_held_list_is_asked_and_not_put_again(rt: HostRuntime) -> Result<(), Fail> {
     assert_eq!(rt; after_a_list_made_twice(rt.alloc())?, (3, 40));
+    assert!(rt; list_is_held(rt.alloc())?);
+    assert!(rt; kind_is_given_back(rt.alloc())?);
     assert_eq!(rt; one_too_many(rt.alloc()), Err(TermError::TooMany));
+    Ok(())
+}
+
+/// The height and the size of a pointer.
+fn measures_of_a_pointer(alloc: Global) -> R<(u32, u64)> {
+    let mut cx = Interner::new(alloc, room_for(40))?;
+    let bool = Ty::new(&mut cx, TyKind::Bool)?;
+    let pointer = Ty::new(&mut cx, TyKind::RawPtr(bool, Mutability::Not))?;
+    Ok((pointer.height(&cx), pointer.size(&cx)))
+}
+
+/// The same of a list of two types.
+fn measures_of_a_list(alloc: Global) -> R<(u32, u64)> {
+    let mut cx = Interner::new(alloc, room_for(40))?;
+    let bool = Ty::new(&mut cx, TyKind::Bool)?;
+    let list = Tys::new_from_slice(&mut cx, &[bool, bool])?;
+    Ok((list.height(&cx), list.size(&cx)))
+}
+
+#[test]
+fn heights_and_sizes_are_kept(rt: HostRuntime) -> Result<(), Fail> {
+    assert_eq!(rt; measures_of_a_pointer(rt.alloc())?, (2, 2));
+    assert_eq!(rt; measures_of_a_list(rt.alloc())?, (2, 3));
+    Ok(())
+}
+
+/// Whether the types of a list come in order, and then no more.
+fn list_is_read_in_order(alloc: Global) -> R<bool> {
+    let mut cx = Interner::new(alloc, room_for(40))?;
+    let bool = Ty::new(&mut cx, TyKind::Bool)?;
+    let list = Tys::new_from_slice(&mut cx, &[bool])?;
+    let mut types = list.iter(&cx);
+    Ok(types.next() == Some(bool) && types.next().is_none())
+}
+
+/// Whether the list is that of this type alone.
+fn has_only(cx: &Interner, list: Tys, last: Ty) -> bool
+    requires { IsLive (heap cx.now) (part.Tys list) }
+{
+    if list.len(cx) == 0 {
+        return false;
+    }
+    inputs(cx, list).is_empty() && output(cx, list) == last
+}
+
+/// Whether a list has its last type apart from the others.
+fn list_is_split_before_its_last(alloc: Global) -> R<bool> {
+    let mut cx = Interner::new(alloc, room_for(40))?;
+    let bool = Ty::new(&mut cx, TyKind::Bool)?;
+    let list = Tys::new_from_slice(&mut cx, &[bool])?;
+    Ok(has_only(&cx, list, bool))
+}
+
+#[test]
+fn the_types_of_a_list_are_read(rt: HostRuntime) -> Result<(), Fail> {
+    assert!(rt; list_is_read_in_order(rt.alloc())?);
+    assert!(rt; list_is_split_before_its_last(rt.alloc())?);
+    Ok(())
+}
+
+/// Whether the list of an iterator's items has the handle that the start names.
+fn iterated_list_is_held(alloc: Global) -> R<bool> {
+    let mut cx = Interner::new(alloc, room_for(39))?;
+    let items = [Variance::Covariant];
+    let variances = VariancesOf::new_from_iter(alloc, &mut cx, items.iter().copied())?;
+    Ok(variances == cx.default_types().one_covariant)
+}
+
+/// What a call answers where an item is a refusal, and how many calls were asked then.
+fn after_a_refused_item(alloc: Global) -> R<(R<VariancesOf>, u64)> {
+    let mut cx = Interner::new(alloc, room_for(39))?;
+    let items = [
+        Ok(Variance::Covariant),
+        Err(TermError::TooDeep),
+        Err(TermError::Escapes),
+    ];
+    let refused = VariancesOf::try_new_from_iter(alloc, &mut cx, items.into_iter());
+    Ok((refused, cx.asked()))
+}
+
+/// Whether a list is made where no item is a refusal.
+fn list_of_no_refusals_is_held(alloc: Global) -> R<bool> {
+    let mut cx = Interner::new(alloc, room_for(39))?;
+    let items: [R<Variance>; 1] = [Ok(Variance::Covariant)];
+    let variances = VariancesOf::try_new_from_iter(alloc, &mut cx, items.into_iter())?;
+    Ok(variances == cx.default_types().one_covariant)
+}
+
+#[test]
+fn lists_are_made_of_iterators(rt: HostRuntime) -> Result<(), Fail> {
+    assert!(rt; iterated_list_is_held(rt.alloc())?);
+    let refused = Err(TermError::TooDeep);
+    assert_eq!(rt; after_a_refused_item(rt.alloc())?, (refused, 0));
+    assert!(rt; list_of_no_refusals_is_held(rt.alloc())?);
     Ok(())
 }

@@ -1,10 +1,11 @@
 //! Lists of types.
 ghost use Rattle.ir_core.specs.declared.handles.Part.TheVariants as part;
+ghost use Rattle.ir_core.specs.declared.handles.Ty.{Ty as TySeen};
 ghost use Rattle.ir_laws.specs.Heap.{Each, IsLive};
-ghost use Rattle.ir_table.specs.Interner.{rises, stored};
+ghost use Rattle.ir_table.specs.Interner.{HasTypes, heap, rises, stored};
 ghost use Rattle.ir_table.specs.Kinds.{heap_of, tys_shape, tys_kids};
 ghost use Rattle.ir_table.specs.State.{NewAnswers};
-ghost use Rattle.std.specs.Prelude.{◌≡◌, []};
+ghost use Rattle.std.specs.Prelude.{◌≡◌, ◌++◌, ◌<◌, [], ◌∷◌, length, List};
 
 use crate::store::Store;
 use crate::{Handle, InternList, Interner, ListKey};
@@ -74,4 +75,24 @@ impl InternList for Tys {
     fn holds(self, cx: &Interner) -> bool {
         (self.position as usize) < cx.store.tables.type_lists.len()
     }
+}
+
+/// The types of the list but for the last: what a function takes, where the list has that and what it gives.
+pub fn inputs(cx: &Interner, tys: Tys) -> &[Ty]
+    requires live { IsLive (heap cx.now) (part.Tys tys) }
+    requires some { (all : List TySeen) × HasTypes cx.now tys all × (0 < length all) }
+    ensures { (last : TySeen) × HasTypes cx.now tys (result.now ++ last ∷ []) }
+{
+    let all = tys.as_slice(cx);
+    &all[..all.len() - 1]
+}
+
+/// The last type of the list: what a function gives, where the list has what it takes and that.
+pub fn output(cx: &Interner, tys: Tys) -> Ty
+    requires live { IsLive (heap cx.now) (part.Tys tys) }
+    requires some { (all : List TySeen) × HasTypes cx.now tys all × (0 < length all) }
+    ensures { (front : List TySeen) × HasTypes cx.now tys (front ++ result ∷ []) }
+{
+    let all = tys.as_slice(cx);
+    all[all.len() - 1]
 }

@@ -1,4 +1,6 @@
 //! Scripts, with what each answers.
+ghost use Rattle.std.specs.Prelude.{◌≤◌};
+
 use super::answer;
 use crate::{Cause, ScriptError, read_line};
 use ir_core::{Limits, R, Text};
@@ -163,4 +165,77 @@ fn parts_are_counted(rt: HostRuntime) {
         held(alloc, b"print (tuple (u8))\nprint (tuple (u8 u8))", 42),
         Err((2, Cause::TooMany))
     );
+}
+
+#[test]
+fn names_stand_for_terms(rt: HostRuntime) {
+    let alloc = rt.alloc();
+    let script = b"let A (tuple (u8 u8))\nlet B (tuple (u8 u8))\nsame A B\nsame A (tuple (u8))";
+    assert!(rt; gives(alloc, script, b"yes\nno\n"));
+    assert_eq!(rt; held(alloc, script, 43), Ok(43));
+    assert_eq!(rt; held(alloc, script, 42), Err((4, Cause::TooMany)));
+}
+
+#[test]
+fn names_and_sorts_are_looked_at_in_turn(rt: HostRuntime) {
+    let alloc = rt.alloc();
+    let rows: [(&[u8], (u64, Cause)); 8] = [
+        (b"same u8 static\nprint (", (1, Cause::Sort)),
+        (b"print (tuple (X", (1, Cause::Syntax)),
+        (b"print X", (1, Cause::Unknown)),
+        (b"let A u8\nlet A u8", (2, Cause::Duplicate)),
+        (b"let A static\nprint (tuple (A))", (2, Cause::Sort)),
+        (b"print (tuple (static X))", (1, Cause::Unknown)),
+        (b"same (tuple (static)) X", (1, Cause::Unknown)),
+        (b"print (tuple (static static))", (1, Cause::Sort)),
+    ];
+    for (script, want) in rows {
+        assert_eq!(rt; fault(alloc, script), Some(want));
+    }
+}
+
+// The name of this number.
+fn name(number: u32) -> [u8; 3]
+    requires { number ≤ 256 }
+{
+    [b'A', b'a' + (number / 16) as u8, b'a' + (number % 16) as u8]
+}
+
+// A name for `u8`, and then so many more, each for a tuple of so many of the one before.
+fn chain(alloc: Global, lines: u32, members: u32) -> R<Text>
+    requires { lines ≤ 256 }
+{
+    let mut script = Text::from_bytes(alloc, b"let Aaa u8\n")?;
+    for number in 0..lines {
+        script.append(b"let ")?;
+        script.append(&name(number + 1))?;
+        script.append(b" (tuple (")?;
+        for _ in 0..members {
+            script.append(&name(number))?;
+            script.append(b" ")?;
+        }
+        script.append(b"))\n")?;
+    }
+    Ok(script)
+}
+
+#[test]
+fn names_build_on_names(rt: HostRuntime) -> Result<(), Fail> {
+    let alloc = rt.alloc();
+    assert!(rt; gives(alloc, chain(alloc, 255, 1)?.as_bytes(), b""));
+    let high = chain(alloc, 256, 1)?;
+    assert_eq!(rt; fault(alloc, high.as_bytes()), Some((257, Cause::TooDeep)));
+    let wide = chain(alloc, 40, 2)?;
+    let alike = between(alloc, b"", &wide, b"same Aci Aci")?;
+    assert!(rt; gives(alloc, alike.as_bytes(), b"yes\n"));
+    let printed = between(alloc, b"", &wide, b"print Aci")?;
+    let limits = Limits {
+        size: 1_000_000,
+        ..LIMITS
+    };
+    let refused = answer(alloc, printed.as_bytes(), &limits)
+        .err()
+        .map(|error| (error.line, error.cause));
+    assert_eq!(rt; refused, Some((42, Cause::TooLarge)));
+    Ok(())
 }

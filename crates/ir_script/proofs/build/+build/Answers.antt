@@ -1,4 +1,4 @@
-use Rattle.std.proofs.Common.{◌≡◌, [], Some, Ok, Err, Result, map, refl, sym, ap, subst, ◌+◌, ◌∙◌, rules}
+use Rattle.std.proofs.Common.{◌≡◌, is_some, [], Some, Ok, Err, Result, map, refl, sym, ap, subst, ◌+◌, ◌∙◌, rules}
 use Rattle.std.proofs.lemmas.Result.{err_from_is_err_and}
 use Rattle.ir_core.specs.declared.errors.TermError.{TermError}
 use Rattle.ir_core.specs.declared.errors.TermError.TheVariants.{Memory}
@@ -9,14 +9,16 @@ use Rattle.ir_laws.specs.Environment.{field_in}
 use Rattle.ir_laws.specs.Heap.{Each}
 use Rattle.ir_laws.specs.Phrase.{each_of}
 use Rattle.ir_table.specs.Fits.{part_sort}
-use Rattle.ir_table.specs.Interner.{state}
+use Rattle.ir_table.specs.Interner.{heap, state}
+use Rattle.ir_script.specs.Scope.{env_of, names_in}
 use Rattle.ir_table.specs.Kinds as table
 use Rattle.ir_table.proofs.CallerLemmas.{live_sort}
 use Rattle.ir_script.specs.declared.phrases.Phrase.{the_lemmas}
 use Rattle.ir_script.specs.Built.{AllSuit, Builds, BuildsAll}
 use Rattle.ir_script.specs.Causes.{no_names}
 use Rattle.ir_script.specs.Phrases.{field_seen, phrase_seen, phrases_seen}
-use Rattle.ir_script.proofs.BuildLemmas.{phrase_is, label_kids_buildable, kids_refused, label_types, list_shape, label_fits, label_shape, label_made, label_refused, label_answers, BuiltSoFar, none_so_far, buildable_at, next_taken, next_makes, one_more, all_refused, all_built}
+use Rattle.ir_script.proofs.BuildLemmas.{phrase_is, label_kids_buildable, kids_refused, label_types, list_shape, label_fits, label_shape, label_made, label_refused, label_answers, BuiltSoFar, none_so_far, buildable_at, next_taken, next_makes, one_more, all_refused, all_built, built_under, name_built, name_found}
+use Rattle.ir_script.proofs.ScopeLemmas.{terms_later}
 use Rattle.ir_script.proofs.MadeLemmas.{makes_memory}
 use Rattle.ir_script.proofs.build.+build.Goals as goal
 
@@ -28,94 +30,106 @@ memory_is is = cc
 
 pub build-build_all-requires : goal.build-build_all-requires
 build-build_all-requires t c =
-    (search (rules, the_lemmas), label_kids_buildable (phrase_is _ _ _ _ _ c.in-Labelled.is c.deref.ensures.value c.requires))
+    let l = phrase_is (env_of (heap c.args.cx.now) (names_in c.args.scope.now)) (names_in c.args.scope.now) _ _ _ _ _ c.in-Labelled.is c.deref.ensures.value c.requires.buildable in
+    (search (rules, the_lemmas), (label_kids_buildable l, c.requires.terms))
 
 pub build-returns-in_err-parts : goal.build-returns-in_err-parts
 build-returns-in_err-parts t c =
-    let l = phrase_is _ _ _ _ _ c.in-Labelled.is c.deref.ensures.value c.requires in
+    let l = phrase_is (env_of (heap c.args.cx.now) (names_in c.args.scope.now)) (names_in c.args.scope.now) _ _ _ _ _ c.in-Labelled.is c.deref.ensures.value c.requires.buildable in
     let from = err_from_is_err_and c.from_residual.result c.from_residual.ensures.1 in
     let kids = c.in_err-parts.ensures in
-    subst (λ (r : Result Part TermError). Builds (state c.args.cx.now) (state c.build_all.new.cx) (phrase_seen c.args.phrase.now) r) (sym (from.1 ∙ ap Err from.2))
+    subst (λ (r : Result Part TermError). Builds (env_of (heap c.args.cx.now) (names_in c.args.scope.now)) (names_in c.args.scope.now) (state c.args.cx.now) (state c.build_all.new.cx) (phrase_seen c.args.phrase.now) r) (sym (from.1 ∙ ap Err from.2))
     (kids_refused l _ _ _ kids.made kids.trees kids.makes)
 
 pub build-returns-in_err-types-in-TypeList : goal.build-returns-in_err-types-in-TypeList
 build-returns-in_err-types-in-TypeList t c =
-    let l = phrase_is _ _ _ _ _ c.in-Labelled.is c.deref.ensures.value c.requires in
+    let l = phrase_is (env_of (heap c.args.cx.now) (names_in c.args.scope.now)) (names_in c.args.scope.now) _ _ _ _ _ c.in-Labelled.is c.deref.ensures.value c.requires.buildable in
     let from = err_from_is_err_and c.from_residual-in_err-types-in-TypeList.result c.from_residual-in_err-types-in-TypeList.ensures.1 in
     let kids = c.in_ok-parts.ensures in
-    subst (λ (r : Result Part TermError). Builds (state c.args.cx.now) (state c.build_all.new.cx) (phrase_seen c.args.phrase.now) r) (sym (from.1 ∙ ap Err from.2))
+    subst (λ (r : Result Part TermError). Builds (env_of (heap c.args.cx.now) (names_in c.args.scope.now)) (names_in c.args.scope.now) (state c.args.cx.now) (state c.build_all.new.cx) (phrase_seen c.args.phrase.now) r) (sym (from.1 ∙ ap Err from.2))
     (kids_refused l _ _ _ kids.made kids.trees (makes_memory _ _ _ _ _ (memory_is c.in_err-types-in-TypeList.ensures.err) kids.makes))
 
-pub build-returns-in_err-seen-in_default-word : goal.build-returns-in_err-seen-in_default-word
-build-returns-in_err-seen-in_default-word t c =
-    let l = phrase_is _ _ _ _ _ c.in-Labelled.is c.deref.ensures.value c.requires in
-    let from = err_from_is_err_and c.from_residual-in_err-seen-in_default-word.result c.from_residual-in_err-seen-in_default-word.ensures.1 in
+pub build-returns-in_err-seen-in_default : goal.build-returns-in_err-seen-in_default
+build-returns-in_err-seen-in_default t c =
+    let l = phrase_is (env_of (heap c.args.cx.now) (names_in c.args.scope.now)) (names_in c.args.scope.now) _ _ _ _ _ c.in-Labelled.is c.deref.ensures.value c.requires.buildable in
+    let from = err_from_is_err_and c.from_residual-in_err-seen-in_default.result c.from_residual-in_err-seen-in_default.ensures.1 in
     let kids = c.in_ok-parts.ensures in
-    subst (λ (r : Result Part TermError). Builds (state c.args.cx.now) (state c.build_all.new.cx) (phrase_seen c.args.phrase.now) r) (sym (from.1 ∙ ap Err from.2))
-    (kids_refused l _ _ _ kids.made kids.trees (makes_memory _ _ _ _ _ (memory_is c.in_err-seen-in_default-word.ensures.err) kids.makes))
+    subst (λ (r : Result Part TermError). Builds (env_of (heap c.args.cx.now) (names_in c.args.scope.now)) (names_in c.args.scope.now) (state c.args.cx.now) (state c.build_all.new.cx) (phrase_seen c.args.phrase.now) r) (sym (from.1 ∙ ap Err from.2))
+    (kids_refused l _ _ _ kids.made kids.trees (makes_memory _ _ _ _ _ (memory_is c.in_err-seen-in_default.ensures.err) kids.makes))
 
 pub build-types_of-requires : goal.build-types_of-requires
 build-types_of-requires t c =
-    let l = phrase_is _ _ _ _ _ c.in-Labelled.is c.deref.ensures.value c.requires in
+    let l = phrase_is (env_of (heap c.args.cx.now) (names_in c.args.scope.now)) (names_in c.args.scope.now) _ _ _ _ _ c.in-Labelled.is c.deref.ensures.value c.requires.buildable in
     subst (Each (λ q. part_sort q ≡ OfType)) (sym c.deref-in-TypeList.ensures.value) (label_types l c.in-TypeList.is _ c.in_ok-parts.ensures.suit)
 
 pub build-returns-in_err-list-in-TypeList : goal.build-returns-in_err-list-in-TypeList
 build-returns-in_err-list-in-TypeList t c =
-    let l = phrase_is _ _ _ _ _ c.in-Labelled.is c.deref.ensures.value c.requires in
+    let l = phrase_is (env_of (heap c.args.cx.now) (names_in c.args.scope.now)) (names_in c.args.scope.now) _ _ _ _ _ c.in-Labelled.is c.deref.ensures.value c.requires.buildable in
     let same = ap (map part.Ty) c.deref-in-TypeList-2.ensures.value ∙ c.in_ok-types-in-TypeList.ensures.types ∙ c.deref-in-TypeList.ensures.value in
     let store = c.build_all.new.cx.store in
     let from = err_from_is_err_and c.from_residual-in_err-list-in-TypeList.result c.from_residual-in_err-list-in-TypeList.ensures.1 in
-    subst (λ (r : Result Part TermError). Builds (state c.args.cx.now) (state c.new_from_slice.new.cx) (phrase_seen c.args.phrase.now) r) (sym (from.1 ∙ ap Err from.2))
+    subst (λ (r : Result Part TermError). Builds (env_of (heap c.args.cx.now) (names_in c.args.scope.now)) (names_in c.args.scope.now) (state c.args.cx.now) (state c.new_from_slice.new.cx) (phrase_seen c.args.phrase.now) r) (sym (from.1 ∙ ap Err from.2))
     (label_refused l _ _ _ _ c.in_ok-parts.ensures store.sound store.counted _ same _ (list_shape l c.in-TypeList.is c.deref-in-TypeList-2.result.now) _ c.in_err-list-in-TypeList.ensures.answers)
 
 pub build-returns-in-TypeList : goal.build-returns-in-TypeList
 build-returns-in-TypeList t c =
-    let l = phrase_is _ _ _ _ _ c.in-Labelled.is c.deref.ensures.value c.requires in
+    let l = phrase_is (env_of (heap c.args.cx.now) (names_in c.args.scope.now)) (names_in c.args.scope.now) _ _ _ _ _ c.in-Labelled.is c.deref.ensures.value c.requires.buildable in
     let same = ap (map part.Ty) c.deref-in-TypeList-2.ensures.value ∙ c.in_ok-types-in-TypeList.ensures.types ∙ c.deref-in-TypeList.ensures.value in
     let old = c.build_all.new.cx.store in
     let store = c.new_from_slice.new.cx.store in
-    subst (λ (q : Part). Builds (state c.args.cx.now) (state c.new_from_slice.new.cx) (phrase_seen c.args.phrase.now) (Ok q)) (sym c.as_part.ensures)
+    subst (λ (q : Part). Builds (env_of (heap c.args.cx.now) (names_in c.args.scope.now)) (names_in c.args.scope.now) (state c.args.cx.now) (state c.new_from_slice.new.cx) (phrase_seen c.args.phrase.now) (Ok q)) (sym c.as_part.ensures)
     (label_made l _ _ _ _ c.in_ok-parts.ensures old.sound old.counted _ same _ (list_shape l c.in-TypeList.is c.deref-in-TypeList-2.result.now) _ (live_sort store.tables store.sound) (λ _. refl) c.in_ok-list-in-TypeList.ensures.answers)
 
 pub build-kind_of-requires : goal.build-kind_of-requires
 build-kind_of-requires t c =
-    let l = phrase_is _ _ _ _ _ c.in-Labelled.is c.deref.ensures.value c.requires in
-    let fields = ap (λ fs. each_of (field_in no_names) (map field_seen fs)) (sym c.deref-in_default-word.ensures.value) ∙ c.in_ok-seen-in_default-word.ensures.fields ∙ ap (λ fs. Some (map table.field_seen fs)) (sym c.deref-in_default-word-2.ensures.value) in
-    label_fits l c.in_default-word.not-TypeList _ fields _ (subst (AllSuit (phrases_seen c.deref.result.now)) (sym c.deref-in_default-word-3.ensures.value) c.in_ok-parts.ensures.suit)
+    let l = phrase_is (env_of (heap c.args.cx.now) (names_in c.args.scope.now)) (names_in c.args.scope.now) _ _ _ _ _ c.in-Labelled.is c.deref.ensures.value c.requires.buildable in
+    let fields = ap (λ fs. each_of (field_in no_names) (map field_seen fs)) (sym c.deref-in_default.ensures.value) ∙ c.in_ok-seen-in_default.ensures.fields ∙ ap (λ fs. Some (map table.field_seen fs)) (sym c.deref-in_default-2.ensures.value) in
+    label_fits l c.in_default.not-TypeList _ fields _ (subst (AllSuit (names_in c.args.scope.now) (phrases_seen c.deref.result.now)) (sym c.deref-in_default-3.ensures.value) c.in_ok-parts.ensures.suit)
 
 pub build-returns : goal.build-returns
 build-returns t c =
-    let l = phrase_is _ _ _ _ _ c.in-Labelled.is c.deref.ensures.value c.requires in
-    let fields = ap (λ fs. each_of (field_in no_names) (map field_seen fs)) (sym c.deref-in_default-word.ensures.value) ∙ c.in_ok-seen-in_default-word.ensures.fields ∙ ap (λ fs. Some (map table.field_seen fs)) (sym c.deref-in_default-word-2.ensures.value) in
-    let same = c.kind_of.ensures.kids ∙ c.deref-in_default-word-3.ensures.value in
+    let l = phrase_is (env_of (heap c.args.cx.now) (names_in c.args.scope.now)) (names_in c.args.scope.now) _ _ _ _ _ c.in-Labelled.is c.deref.ensures.value c.requires.buildable in
+    let fields = ap (λ fs. each_of (field_in no_names) (map field_seen fs)) (sym c.deref-in_default.ensures.value) ∙ c.in_ok-seen-in_default.ensures.fields ∙ ap (λ fs. Some (map table.field_seen fs)) (sym c.deref-in_default-2.ensures.value) in
+    let same = c.kind_of.ensures.kids ∙ c.deref-in_default-3.ensures.value in
     let old = c.build_all.new.cx.store in
     let store = c.part_of.new.self.store in
-    label_answers l _ _ _ _ c.in_ok-parts.ensures old.sound old.counted _ same _ (label_shape l _ _ c.kind_of.ensures.shape fields) c.in_default-word.not-TypeList _ (live_sort store.tables store.sound) c.part_of.ensures.answers
+    label_answers l _ _ _ _ c.in_ok-parts.ensures old.sound old.counted _ same _ (label_shape l _ _ c.kind_of.ensures.shape fields) c.in_default.not-TypeList _ (live_sort store.tables store.sound) c.part_of.ensures.answers
 
 -- ---- the kids
 
 pub build_all-build-requires : goal.build_all-build-requires
 build_all-build-requires t c =
-    (search (rules, the_lemmas), buildable_at _ _ _ c.loop-kid-test.true c.kid-item.is c.requires)
+    (search (rules, the_lemmas), (buildable_at _ _ _ _ c.loop-kid-test.true c.kid-item.is c.requires.buildable, terms_later _ _ c.loop-kid.invariant.makes.grows _ c.requires.terms))
 
 pub build_all-returns-in_err-part : goal.build_all-returns-in_err-part
 build_all-returns-in_err-part t c =
     let from = err_from_is_err_and c.from_residual.result c.from_residual.ensures.1 in
-    subst (BuildsAll (state c.args.cx.now) (state c.build.new.cx) (phrases_seen c.args.kids.now)) (sym (from.1 ∙ ap Err from.2))
-    (all_refused _ _ _ (c.loop-kid.kid-index + 1) _ c.requires (next_makes _ _ _ (next_taken _ _ _ c.loop-kid-test.true c.kid-item.is) c.loop-kid.invariant c.in_err-part.ensures))
+    subst (BuildsAll (env_of (heap c.args.cx.now) (names_in c.args.scope.now)) (names_in c.args.scope.now) (state c.args.cx.now) (state c.build.new.cx) (phrases_seen c.args.kids.now)) (sym (from.1 ∙ ap Err from.2))
+    (all_refused _ _ c.requires.terms _ _ _ (c.loop-kid.kid-index + 1) _ c.requires.buildable
+    (next_makes _ _ _ _ _ (next_taken _ _ _ c.loop-kid-test.true c.kid-item.is) c.loop-kid.invariant (built_under _ _ _ _ _ _ _ c.loop-kid.invariant.makes.grows c.requires.terms c.in_err-part.ensures)))
 
 pub build_all-returns-in_err-push : goal.build_all-returns-in_err-push
 build_all-returns-in_err-push t c =
     let from = err_from_is_err_and c.from_residual-in_err-push.result c.from_residual-in_err-push.ensures.1 in
-    subst (BuildsAll (state c.args.cx.now) (state c.build.new.cx) (phrases_seen c.args.kids.now)) (sym from.1)
-    (all_refused _ _ _ (c.loop-kid.kid-index + 1) _ c.requires (makes_memory _ _ _ _ _ from.2 (next_makes _ _ _ (next_taken _ _ _ c.loop-kid-test.true c.kid-item.is) c.loop-kid.invariant c.in_ok-part.ensures)))
+    subst (BuildsAll (env_of (heap c.args.cx.now) (names_in c.args.scope.now)) (names_in c.args.scope.now) (state c.args.cx.now) (state c.build.new.cx) (phrases_seen c.args.kids.now)) (sym from.1)
+    (all_refused _ _ c.requires.terms _ _ _ (c.loop-kid.kid-index + 1) _ c.requires.buildable (makes_memory _ _ _ _ _ from.2
+    (next_makes _ _ _ _ _ (next_taken _ _ _ c.loop-kid-test.true c.kid-item.is) c.loop-kid.invariant (built_under _ _ _ _ _ _ _ c.loop-kid.invariant.makes.grows c.requires.terms c.in_ok-part.ensures))))
 
 pub build_all-loop-kid-init : goal.build_all-loop-kid-init
-build_all-loop-kid-init t c = subst (BuiltSoFar (state c.args.cx.now) (state c.args.cx.now) []) (sym c.new-parts.ensures.items) (none_so_far _)
+build_all-loop-kid-init t c = subst (BuiltSoFar (env_of (heap c.args.cx.now) (names_in c.args.scope.now)) (names_in c.args.scope.now) (state c.args.cx.now) (state c.args.cx.now) []) (sym c.new-parts.ensures.items) (none_so_far _ _ _)
 
 pub build_all-loop-kid-preserved : goal.build_all-loop-kid-preserved
 build_all-loop-kid-preserved t c =
-    one_more _ _ _ (next_taken _ _ _ c.loop-kid-test.true c.kid-item.is) c.loop-kid.invariant _ _ c.in_ok-push.ensures.items c.in_ok-part.ensures
+    one_more _ _ _ _ _ (next_taken _ _ _ c.loop-kid-test.true c.kid-item.is) c.loop-kid.invariant _ _ c.in_ok-push.ensures.items
+    (built_under _ _ _ _ _ _ _ c.loop-kid.invariant.makes.grows c.requires.terms c.in_ok-part.ensures)
 
 pub build_all-returns : goal.build_all-returns
-build_all-returns t c = all_built _ _ _ _ _ c.loop-kid-test.false c.loop-kid.invariant
+build_all-returns t c = all_built _ _ c.requires.terms _ _ _ _ _ c.loop-kid-test.false c.loop-kid.invariant
+
+-- ---- a name
+
+pub build-unwrap-requires : goal.build-unwrap-requires
+build-unwrap-requires t c = ap is_some c.find.ensures ∙ name_found _ _ _ _ c.in-Name.is c.as_bytes.ensures c.requires.buildable
+
+pub build-returns-in-Name : goal.build-returns-in-Name
+build-returns-in-Name t c = name_built _ _ _ _ _ _ c.args.cx.now.store.sound c.requires.terms c.in-Name.is c.as_bytes.ensures (sym c.find.ensures ∙ c.unwrap.ensures)

@@ -1,23 +1,31 @@
-use Rattle.std.proofs.Common.{None, sym, ap, ◌∙◌}
+use Rattle.std.proofs.Common.{None, not, sym, ap, ◌∙◌}
 use Rattle.std.proofs.Math.ListN.{drop_of_length-le}
 use Rattle.ir_laws.specs.Cause.{is_cause_among, Unknown}
-use Rattle.ir_laws.specs.Names.{unknown_each}
-use Rattle.ir_script.specs.Causes.{no_names}
+use Rattle.ir_laws.specs.Names.{unless, unknown_each}
+use Rattle.ir_script.specs.Scope.{env_of, names_in}
 use Rattle.ir_script.specs.Phrases.{phrases_seen}
-use Rattle.ir_script.proofs.NameLemmas.{label_names, next_names, unknown_here}
+use Rattle.ir_script.proofs.NameLemmas.{label_names, code_name, next_names, unknown_here}
 use Rattle.ir_script.proofs.names.+names.Goals as goal
 
 pub unknown_among-returns-then-unknown_name-clause-unknown : goal.unknown_among-returns-then-unknown_name-clause-unknown
-unknown_among-returns-then-unknown_name-clause-unknown t c = λ _. unknown_here _ _ _ c.loop-phrase-test.true c.phrase-item.is (c.unknown_name.ensures.unknown c.if-unknown_name.true) c.loop-phrase.invariant
+unknown_among-returns-then-unknown_name-clause-unknown t c = λ h _. unknown_here _ _ _ _ c.loop-phrase-test.true c.phrase-item.is (c.unknown_name.ensures.unknown h c.if-unknown_name.true) (c.loop-phrase.invariant h)
 
 pub unknown_among-loop-phrase-preserved : goal.unknown_among-loop-phrase-preserved
-unknown_among-loop-phrase-preserved t c = next_names _ _ _ c.loop-phrase-test.true c.phrase-item.is (c.unknown_name.ensures.known c.if-unknown_name.false) c.loop-phrase.invariant
+unknown_among-loop-phrase-preserved t c = λ h. next_names _ _ _ _ c.loop-phrase-test.true c.phrase-item.is (c.unknown_name.ensures.known h c.if-unknown_name.false) (c.loop-phrase.invariant h)
 
 pub unknown_among-returns-clause-known : goal.unknown_among-returns-clause-known
-unknown_among-returns-clause-known t c = λ _. sym c.loop-phrase.invariant ∙ ap (λ ps. unknown_each no_names None (phrases_seen ps)) (drop_of_length-le _ c.loop-phrase-test.false)
+unknown_among-returns-clause-known t c = λ h _. sym (c.loop-phrase.invariant h) ∙ ap (λ ps. unknown_each (env_of h (names_in c.args.scope.now)) None (phrases_seen ps)) (drop_of_length-le _ c.loop-phrase-test.false)
 
 pub unknown_name-returns-in-Labelled-clause-unknown : goal.unknown_name-returns-in-Labelled-clause-unknown
-unknown_name-returns-in-Labelled-clause-unknown t c = λ h. ap (λ cs. is_cause_among cs Unknown) (label_names _ _ _ _ _ c.in-Labelled.is c.deref.ensures.value) ∙ c.unknown_among.ensures.unknown h
+unknown_name-returns-in-Labelled-clause-unknown t c = λ h yes. ap (λ cs. is_cause_among cs Unknown) (label_names _ _ _ _ _ _ c.in-Labelled.is c.deref.ensures.value) ∙ c.unknown_among.ensures.unknown h yes
 
 pub unknown_name-returns-in-Labelled-clause-known : goal.unknown_name-returns-in-Labelled-clause-known
-unknown_name-returns-in-Labelled-clause-known t c = λ h. label_names _ _ _ _ _ c.in-Labelled.is c.deref.ensures.value ∙ c.unknown_among.ensures.known h
+unknown_name-returns-in-Labelled-clause-known t c = λ h no. label_names _ _ _ _ _ _ c.in-Labelled.is c.deref.ensures.value ∙ c.unknown_among.ensures.known h no
+
+pub unknown_name-returns-in-Name-clause-unknown : goal.unknown_name-returns-in-Name-clause-unknown
+unknown_name-returns-in-Name-clause-unknown t c = λ h yes.
+    ap (λ cs. is_cause_among cs Unknown) (code_name h _ _ _ _ _ c.in-Name.is c.as_bytes.ensures c.find.ensures ∙ ap (λ b. unless b Unknown) (c.is_none.ensures ∙ ap not yes))
+
+pub unknown_name-returns-in-Name-clause-known : goal.unknown_name-returns-in-Name-clause-known
+unknown_name-returns-in-Name-clause-known t c = λ h no.
+    code_name h _ _ _ _ _ c.in-Name.is c.as_bytes.ensures c.find.ensures ∙ ap (λ b. unless b Unknown) (c.is_none.ensures ∙ ap not no)
