@@ -89,6 +89,15 @@ pub enum SolverDefId {
     Ctor(Ctor),
 }
 
+/// The number of a variable in its binder's list.
+#[derive(Clone, Copy, PartialEq, Eq, PartialOrd, Ord, Hash, Debug)]
+pub struct BoundVar(pub u32);
+
 /// A de Bruijn index: how many binders stand between a variable and the one that binds it.
 #[derive(Clone, Copy, PartialEq, Eq, PartialOrd, Ord, Hash, Debug)]
 pub struct DebruijnIndex(pub u32);
+
+impl DebruijnIndex {
+    /// That of the nearest binder.
+    pub const ZERO: DebruijnIndex = DebruijnIndex(0);
+}

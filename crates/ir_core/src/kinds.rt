@@ -1,5 +1,8 @@
 //! Kinds: what a handle stands for, one layer deep.
-use crate::{Region, Ty, Tys};
+use crate::{
+    Binder, BoundConst, BoundRegion, BoundTy, BoundVarIndexKind, FnHeader, FnSigTys, Region, Ty,
+    Tys,
+};
 
 /// A signed integer type.
 #[derive(Clone, Copy, PartialEq, Eq, Hash, Debug)]
@@ -54,14 +57,18 @@ pub enum TyKind {
     Str,
     RawPtr(Ty, Mutability),
     Ref(Region, Ty, Mutability),
+    FnPtr(Binder<FnSigTys>, FnHeader),
+    UnsafeBinder(Binder<Ty>),
     Never,
     Tuple(Tys),
+    Bound(BoundVarIndexKind, BoundTy),
     Error(ErrorGuaranteed),
 }
 
 /// What a region is.
 #[derive(Clone, Copy, PartialEq, Eq, Hash, Debug)]
 pub enum RegionKind {
+    ReBound(BoundVarIndexKind, BoundRegion),
     ReStatic,
     ReErased,
     ReError(ErrorGuaranteed),
@@ -70,26 +77,8 @@ pub enum RegionKind {
 /// What a constant is.
 #[derive(Clone, Copy, PartialEq, Eq, Hash, Debug)]
 pub enum ConstKind {
+    Bound(BoundVarIndexKind, BoundConst),
     Error(ErrorGuaranteed),
-}
-
-/// What a bound region is called.
-#[derive(Clone, Copy, PartialEq, Eq, Hash, Debug)]
-pub enum BoundRegionKind {
-    /// The region of a closure's environment, through which its body reaches what it captured.
-    ClosureEnv,
-}
-
-/// What a variable of a binder is. The default fills the unused places of a short list.
-#[derive(Clone, Copy, PartialEq, Eq, Hash, Debug)]
-pub enum BoundVarKind {
-    Region(BoundRegionKind),
-}
-
-impl Default for BoundVarKind {
-    fn default() -> BoundVarKind {
-        BoundVarKind::Region(BoundRegionKind::ClosureEnv)
-    }
 }
 
 /// How a term depends on an argument of it. The default fills the unused places of a short list.

@@ -1,6 +1,7 @@
-//! Plain types of the term layer: ids of items, handles, kinds, limits, errors, texts and streams.
+//! Plain types of the term layer: ids of items, handles, kinds, variables, binders, signatures, limits, errors, texts and streams.
 #![tactic(auto)]
 
+mod binder;
 mod defaults;
 mod errors;
 mod faulty;
@@ -10,10 +11,13 @@ mod ids;
 mod info;
 mod kinds;
 mod limit;
+mod signatures;
 mod streams;
 mod terms;
 mod texts;
+mod variables;
 
+pub use binder::Binder;
 pub use defaults::{DefaultAny, DefaultConsts, DefaultEmpty, DefaultRegions, DefaultTypes};
 pub use errors::{R, TermError};
 pub use faulty::{MemorySink, MemorySource};
@@ -23,16 +27,21 @@ pub use handles::{
     RegionAssumptions, Ty, Tys, VariancesOf,
 };
 pub use ids::{
-    AdtId, BuiltinDeriveImplId, ConstId, Ctor, DebruijnIndex, EnumId, EnumVariantId, FunctionId,
-    ImplId, InternedClosureId, InternedCoroutineId, InternedOpaqueTyId, SolverDefId, StaticId,
-    StructId, TraitId, TypeAliasId, UnionId,
+    AdtId, BoundVar, BuiltinDeriveImplId, ConstId, Ctor, DebruijnIndex, EnumId, EnumVariantId,
+    FunctionId, ImplId, InternedClosureId, InternedCoroutineId, InternedOpaqueTyId, SolverDefId,
+    StaticId, StructId, TraitId, TypeAliasId, UnionId,
 };
 pub use info::WithCachedTypeInfo;
 pub use kinds::{
-    BoundRegionKind, BoundVarKind, ConstKind, ErrorGuaranteed, FloatTy, IntTy, Mutability,
-    RegionKind, TyKind, UintTy, Variance,
+    ConstKind, ErrorGuaranteed, FloatTy, IntTy, Mutability, RegionKind, TyKind, UintTy, Variance,
 };
 pub use limit::Limits;
+pub use signatures::{
+    FnAbi, FnHeader, FnSig, FnSigTys, PolyFnSig, Safety, StoredPolyFnSig, split, with_header,
+};
 pub use streams::{Failed, Sink, Source, SureSink, SureSource};
 pub use terms::AnyTerm;
 pub use texts::Text;
+pub use variables::{
+    BoundConst, BoundRegion, BoundRegionKind, BoundTy, BoundTyKind, BoundVarIndexKind, BoundVarKind,
+};

@@ -1,11 +1,12 @@
 -- What the grammar makes of an expression fits the table of labels, by induction on expressions.
-use Rattle.std.proofs.Common.{◌≡◌, Bool, true, false, ◌||◌, List, [], ◌∷◌, find, Option, Some, None, IfSome, option_map, refl, bytes_eq}
+use Rattle.std.proofs.Common.{◌≡◌, ◌∙◌, sym, ap, true≢false, ℕ, not, Bool, true, false, ◌||◌, List, [], ◌∷◌, find, Option, Some, None, IfSome, option_map, refl, bytes_eq}
 use Rattle.std.specs.Bool.{⊤}
 use Rattle.std.specs.List.{list_all}
 use Rattle.std.proofs.lemmas.Bool.{false≢true, and_from, and_parts, or_left, or_right, cond_both, eq-eqb}
 use Rattle.std.proofs.lemmas.Option.{IfSome_then, MatchOption-at_some}
 use Rattle.ir_laws.specs.declared.words.Word.{Word}
 use Rattle.ir_laws.specs.declared.words.Word.TheVariants.{ArgumentList}
+use Rattle.ir_laws.specs.declared.labels.FixedWord.{FixedWord}
 use Rattle.ir_laws.specs.declared.labels.FieldForm.{FieldForm}
 use Rattle.ir_laws.specs.declared.labels.FieldForm.TheVariants.{OneWordOf, ItemOf, AliasOfTrait, IdOf, ANumber, AVariableKind, ARegionKind, AMemory}
 use Rattle.ir_laws.specs.declared.labels.Keyword.{Keyword}
@@ -22,7 +23,8 @@ use Rattle.ir_laws.specs.Phrase.{Phrase, Phrases, Name, Labelled, NoPhrase, Then
 use Rattle.ir_laws.specs.Numeral.{name_of, number_of, bytes_of_hex}
 use Rattle.ir_laws.specs.Names.{field_forms}
 use Rattle.ir_laws.specs.Sorts.{is_word_among}
-use Rattle.ir_laws.specs.Formed.{kid_forms, is_keyword_among, field_fits, fields_fit, is_formed, kids_formed, is_list_formed, all_formed}
+use Rattle.ir_laws.specs.Parts.{has_for_group}
+use Rattle.ir_laws.specs.Formed.{kid_forms, is_keyword_among, field_fits, fields_fit, bind_fits, is_formed, kids_formed, is_list_formed, all_formed}
 
 -- ---- what a search in a list finds
 
@@ -73,6 +75,14 @@ IfSome_always P (Some x) h = h x
 
 -- ---- fields
 
+-- a field that fits a number's place is a number
+pub number_fits : {N : Type 0} (f : Field N) → field_fits ANumber f ≡ true → (n : ℕ) × (f ≡ Number n)
+number_fits (Number n) h = (n, refl)
+number_fits (Item name) h = absurd (true≢false (sym h))
+number_fits (Chosen word) h = absurd (true≢false (sym h))
+number_fits (OfKind k) h = absurd (true≢false (sym h))
+number_fits (Memory bytes mapped) h = absurd (true≢false (sym h))
+
 field_of-fits : (form : FieldForm) (text : Text) → IfSome (field_of form text) (λ f. field_fits form f ≡ true)
 field_of-fits (OneWordOf choice) text = IfSome-option_map Chosen _ (find (λ w. bytes_eq (keyword_text w) text) (choice_words choice)) (find-is_keyword_among _ (choice_words choice))
 field_of-fits (ItemOf place) text = IfSome-option_map Item _ (name_of text) (IfSome_always _ (name_of text) (λ x. refl))
@@ -101,7 +111,12 @@ memory_of-fits (bytes ∷ rest) = IfSome-and_then _ _ (bytes_of_hex bytes) (λ b
 -- ---- what the parts of a label give
 
 abbrev FitsParts : List Part → Fitted → Type 0
-FitsParts parts r = (fields_fit (field_forms parts) r.fields ≡ true) × (kids_formed (kid_forms parts) r.kids ≡ true)
+FitsParts parts r = (fields_fit (field_forms parts) r.fields ≡ true) × (bind_fits parts r.bind ≡ true) × (kids_formed (kid_forms parts) r.kids ≡ true)
+
+-- a part that is no group changes nothing of what may be bound
+bind_fits-behind : (parts rest : List Part) (b : Option (List (Kind Text))) → has_for_group parts ≡ has_for_group rest → bind_fits rest b ≡ true → bind_fits parts b ≡ true
+bind_fits-behind parts rest None same h = ap not same ∙ h
+bind_fits-behind parts rest (Some ks) same h = same ∙ h
 
 -- a memory takes all the expressions that are left, so no part may stand after it
 abbrev memory_is_last : List Part → Bool
@@ -114,16 +129,20 @@ with_field-fits : (form : FieldForm) (parts : List Part) (f : Option (Field Text
     → IfSome f (λ x. field_fits form x ≡ true) → IfSome o (FitsParts parts) → IfSome (with_field f o) (FitsParts (AField form ∷ parts))
 with_field-fits form parts None o a b = tt
 with_field-fits form parts (Some x) None a b = tt
-with_field-fits form parts (Some x) (Some r) a b = (and_from _ _ a b.0, b.1)
+with_field-fits form parts (Some x) (Some r) a b = (and_from _ _ a b.0, bind_fits-behind (AField form ∷ parts) parts r.bind refl b.1, b.2)
 
 with_bind-fits : (parts : List Part) (bind : Option (List (Kind Text))) (o : Option Fitted) → IfSome o (FitsParts parts) → IfSome (with_bind bind o) (FitsParts (ForGroup ∷ parts))
 with_bind-fits parts None o h = tt
 with_bind-fits parts (Some b) None h = tt
-with_bind-fits parts (Some b) (Some r) h = h
+with_bind-fits parts (Some b) (Some r) h = (h.0, refl, h.2)
+
+fixed-fits : (word : FixedWord) (parts : List Part) (o : Option Fitted) → IfSome o (FitsParts parts) → IfSome o (FitsParts (Fixed word ∷ parts))
+fixed-fits word parts None h = tt
+fixed-fits word parts (Some r) h = (h.0, bind_fits-behind (Fixed word ∷ parts) parts r.bind refl h.1, h.2)
 
 fields_alone-fits : (f : Option (Field Text)) → IfSome f (λ x. field_fits AMemory x ≡ true) → IfSome (fields_alone f) (FitsParts (AField AMemory ∷ []))
 fields_alone-fits None h = tt
-fields_alone-fits (Some x) h = (and_from _ _ h refl, refl)
+fields_alone-fits (Some x) h = (and_from _ _ h refl, refl, refl)
 
 -- a kid is of its form
 abbrev kid_formed : KidForm → Phrase → Bool
@@ -142,7 +161,7 @@ with_kid-fits : (form : KidForm) (parts : List Part) (k : Option Phrase) (o : Op
     → IfSome k (λ p. kid_formed form p ≡ true) → IfSome o (FitsParts parts) → IfSome (with_kid k o) (FitsParts (AKid form ∷ parts))
 with_kid-fits form parts None o a b = tt
 with_kid-fits form parts (Some p) None a b = tt
-with_kid-fits form parts (Some p) (Some r) a b = (b.0, kids_formed-then form (kid_forms parts) p r.kids a b.1)
+with_kid-fits form parts (Some p) (Some r) a b = (b.0, bind_fits-behind (AKid form ∷ parts) parts r.bind refl b.1, kids_formed-then form (kid_forms parts) p r.kids a b.2)
 
 -- ---- lists
 
@@ -153,7 +172,7 @@ cons_phrase-formed (Some q) (Some qs) a b = and_from _ _ a b
 
 list_phrase-formed : (list : Word) (ps : Option Phrases) → IfSome ps (λ qs. all_formed qs ≡ true) → IfSome (list_phrase list ps) (λ p. is_list_formed list p ≡ true)
 list_phrase-formed list None h = tt
-list_phrase-formed list (Some qs) h = and_from _ _ (and_from _ _ (same_word_self list) refl) h
+list_phrase-formed list (Some qs) h = and_from _ _ (and_from _ _ (and_from _ _ (same_word_self list) refl) refl) h
 
 -- ---- labels
 
@@ -173,7 +192,7 @@ find-is_built : (p : Word → Bool) → IfSome (find p label_words) IsBuilt
 find-is_built p = IfSome_both _ _ (find p label_words) (find-is_word_among p label_words) (find-list_all p (λ w. memory_is_last (row w).parts) label_words built_rows)
 
 no_parts-fits : (parts : List Part) → no_parts parts ≡ true → FitsParts parts (record { fields = []; bind = None; kids = NoPhrase })
-no_parts-fits [] h = (refl, refl)
+no_parts-fits [] h = (refl, refl, refl)
 no_parts-fits (part ∷ parts) h = absurd (false≢true h)
 
 -- the tests by which the grammar looks a word up
@@ -195,7 +214,7 @@ bare_word-no_parts text = IfSome_then (bare_word text) (find-passes (is_bare tex
 
 labelled-formed : (w : Word) (o : Option Fitted) → IsBuilt w → IfSome o (FitsParts (row w).parts) → IfSome (labelled w o) (λ p. is_formed p ≡ true)
 labelled-formed w None built h = tt
-labelled-formed w (Some r) built h = and_from _ _ (and_from _ _ built.0 h.0) h.1
+labelled-formed w (Some r) built h = and_from _ _ (and_from _ _ (and_from _ _ built.0 h.0) h.1) h.2
 
 bare_or_name-formed : (text : Text) → IfSome (bare_or_name text) (λ p. is_formed p ≡ true)
 bare_or_name-formed text = by (bare_word text) (find-is_built (is_bare text)) (bare_word-no_parts text)
@@ -203,7 +222,7 @@ bare_or_name-formed text = by (bare_word text) (find-is_built (is_bare text)) (b
     by : (o : Option Word) → IfSome o IsBuilt → IfSome o (λ w. no_parts (row w).parts ≡ true)
         → IfSome (elim o [ Some w ↦ Some (Labelled (record { word = w; fields = [] }) None NoPhrase) | None ↦ option_map Name (name_of text) ]) (λ p. is_formed p ≡ true)
     by None built bare = IfSome-option_map Name _ (name_of text) (IfSome_always _ (name_of text) (λ x. refl))
-    by (Some w) built bare = let fits = no_parts-fits (row w).parts bare in and_from _ _ (and_from _ _ built.0 fits.0) fits.1
+    by (Some w) built bare = let fits = no_parts-fits (row w).parts bare in and_from _ _ (and_from _ _ (and_from _ _ built.0 fits.0) fits.1) fits.2
 
 written-formed : (es : Exprs) → ((parts : List Part) → memory_is_last parts ≡ true → IfSome (fit es parts) (FitsParts parts))
     → (o : Option Word) → IfSome o IsBuilt → IfSome (elim o [ Some w ↦ labelled w (fit es (row w).parts) | None ↦ None ]) (λ p. is_formed p ≡ true)
@@ -220,10 +239,10 @@ mutual
   phrase_of-formed (Group (ThenExpr (Single text) es)) = written-formed es (λ parts last. fit-fits es parts last) (written_word text es) (find-is_built (is_written text es))
 
   fit-fits : (es : Exprs) (parts : List Part) → memory_is_last parts ≡ true → IfSome (fit es parts) (FitsParts parts)
-  fit-fits NoExpr [] last = (refl, refl)
+  fit-fits NoExpr [] last = (refl, refl, refl)
   fit-fits NoExpr (part ∷ parts) last = tt
   fit-fits (ThenExpr e es) [] last = tt
-  fit-fits (ThenExpr e es) (Fixed word ∷ parts) last = fit-fits es parts last
+  fit-fits (ThenExpr e es) (Fixed word ∷ parts) last = fixed-fits word parts (fit es parts) (fit-fits es parts last)
   fit-fits (ThenExpr e es) (ForGroup ∷ parts) last = with_bind-fits parts (bind_of e) (fit es parts) (fit-fits es parts last)
   fit-fits (ThenExpr e es) (AField AMemory ∷ []) last = fields_alone-fits (and_then (words_of (ThenExpr e es)) memory_of) (IfSome-and_then memory_of _ (words_of (ThenExpr e es)) memory_of-fits)
   fit-fits (ThenExpr e es) (AField AMemory ∷ part ∷ parts) last = absurd (false≢true last)

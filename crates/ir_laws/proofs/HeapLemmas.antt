@@ -1,10 +1,19 @@
 -- What a sound heap gives: one tree for each name, whatever the depth, and one name for each tree.
-use Rattle.std.proofs.Common.{◌≡◌, ℕ, zero, suc, ◌+◌, ◌<◌, ◌≤◌, max, min, List, [], ◌∷◌, Option, None, Some, ◌⊎◌, inl, inr, refl, sym, ap, subst, ◌∙◌, true≢false, is_some, arith}
+use Rattle.std.proofs.Common.{◌≡◌, ℕ, zero, suc, ◌+◌, ◌<◌, ◌≤◌, max, min, true, false, not, List, [], ◌∷◌, map, Option, None, Some, ◌⊎◌, inl, inr, refl, sym, ap, ap₂, subst, ◌∙◌, true≢false, is_some, arith}
 use Rattle.std.proofs.Props.{props}
+use Rattle.std.proofs.lemmas.Bool.{and_parts}
+use Rattle.std.proofs.lemmas.Option.{none-some, same_Some}
+use Rattle.std.specs.Option.{option_map, option_map_or}
 use Rattle.ir_core.specs.declared.handles.Part.{Part}
-use Rattle.ir_laws.specs.Tree.{Node, End, Term, Terms}
-use Rattle.ir_laws.specs.Counts.{height, heights, size, sizes}
-use Rattle.ir_laws.specs.Heap.{Shape, plant, own_size, forest, Sketch, Heap, Each, largest, total, size_cap, tree_of_sketch, tree_at, tree_of, IsLive, cached_height, cached_size, height_above, size_above, IsSound, Extends, Grows, Adds, Interns, HasNode}
+use Rattle.ir_core.specs.declared.ids.SolverDefId.{SolverDefId}
+use Rattle.ir_laws.specs.declared.words.Word.TheVariants.{VariableList}
+use Rattle.ir_laws.specs.Tree.{Field, OfKind, Term}
+use Rattle.ir_laws.specs.Word.{same_word}
+use Rattle.ir_laws.specs.Counts.{height, heights, size, sizes, flags as flags_in, outer as outer_in}
+use Rattle.ir_laws.specs.Heap.{Shape, plant, own_size, kinds_among, are_kinds, forest, Layer, Sketch, Heap, Each, largest, total, size_cap, with_binder, kinds_at, shape_over, tree_of_sketch, tree_at, tree_of, tree_above, IsLive, cached_height, cached_size, cached_flags, cached_outer, height_above, size_above, has_none, is_variable_list, is_binder, IsSound, Extends, Grows, Adds, Interns, HasNode}
+use Rattle.ir_laws.specs.Parts.{variable_list}
+use Rattle.ir_laws.proofs.PlantLemmas.{plant-shape, plant-kids, height-plant, size-plant}
+use Rattle.ir_laws.proofs.SameParts.{word_decides}
 
 module _ {P : Type 0} where
   pub Each-map : (A B : P → Type 0) → ((p : P) → A p → B p) → (ps : List P) → Each A ps → Each B ps
@@ -27,29 +36,13 @@ module _ {P : Type 0} where
   total-same f g [] h = refl
   total-same f g (p ∷ ps) h = let e = h.0 in let r = total-same f g ps h.1 in rw (e, r)
 
--- the shape and the kids of a planted tree
-shape_in : Shape → Term → Shape
-shape_in d (Node l b ts) = record { label = l; bind = b }
-shape_in d t = d
+pub Grows-refl : {P : Type 0} (h : Heap P) → Grows h h
+Grows-refl h = record { live = λ p l. l; tree = λ p l. refl; height = λ p l. refl; size = λ p l. refl; flags = λ p l. refl; outer = λ p l. refl; kinds = λ p l. refl }
 
-kids_in : Term → Terms
-kids_in (Node l b ts) = ts
-kids_in t = End
-
-pub plant-shape : (s t : Shape) (us vs : Terms) → plant s us ≡ plant t vs → s ≡ t
-unfolding shape_in
-plant-shape s t us vs e = ap (shape_in s) e
-
-pub plant-kids : (s t : Shape) (us vs : Terms) → plant s us ≡ plant t vs → us ≡ vs
-unfolding kids_in
-plant-kids s t us vs e = ap kids_in e
-
--- a planted tree is one higher than its kids, and as large as they and its own
-pub height-plant : (s : Shape) (ts : Terms) → height (plant s ts) ≡ suc (heights ts)
-height-plant s ts = omega arith
-
-pub size-plant : (s : Shape) (ts : Terms) → size (plant s ts) ≡ own_size s + sizes ts
-size-plant s ts = refl
+fields_are_kinds : (fs : List (Field SolverDefId)) → are_kinds fs ≡ true → fs ≡ map OfKind (kinds_among fs)
+fields_are_kinds [] e = refl
+fields_are_kinds (OfKind k ∷ fs) e = ap (λ gs. OfKind k ∷ gs) (fields_are_kinds fs e)
+fields_are_kinds (_ ∷ fs) e = absurd (true≢false (sym e))
 
 module _ {P : Type 0} where
   pub forest-same : (f g : P → Term) (ps : List P) → Each (λ p. f p ≡ g p) ps → forest f ps ≡ forest g ps
@@ -94,17 +87,81 @@ module _ {P : Type 0} where
   pub cached_size_at : (h : Heap P) (p : P) (s : Sketch P) → h p ≡ Some s → cached_size h p ≡ s.size
   cached_size_at h p s e = rw e
 
-  tree_at-suc : (h : Heap P) (n : ℕ) (p : P) (s : Sketch P) → h p ≡ Some s → tree_at (suc n) h p ≡ plant s.shape (forest (tree_at n h) s.kids)
+  pub cached_flags_at : (h : Heap P) (p : P) (s : Sketch P) → h p ≡ Some s → cached_flags h p ≡ s.flags
+  cached_flags_at h p s e = rw e
+
+  pub cached_outer_at : (h : Heap P) (p : P) (s : Sketch P) → h p ≡ Some s → cached_outer h p ≡ s.outer
+  cached_outer_at h p s e = rw e
+
+  pub kinds_at_node : (h : Heap P) (p : P) (s : Sketch P) → h p ≡ Some s → kinds_at h p ≡ kinds_among s.layer.label.fields
+  kinds_at_node h p s e = rw e
+
+  -- ---- binders
+
+  -- the node of a binder
+  binder_node : (h : Heap P) (v : P) → is_binder h (Some v) ≡ true → (s : Sketch P) × (h v ≡ Some s) × (is_variable_list s.layer ≡ true)
+  binder_node h v ok = by (h v) refl ok
+    where
+      by : (o : Option (Sketch P)) → h v ≡ o → option_map_or (λ s. is_variable_list s.layer) o false ≡ true → (s : Sketch P) × (h v ≡ Some s) × (is_variable_list s.layer ≡ true)
+      by None e bad = absurd (true≢false (sym bad))
+      by (Some s) e good = (s, e, good)
+
+  pub is_binder_at : (h : Heap P) (v : P) (s : Sketch P) → h v ≡ Some s → is_variable_list s.layer ≡ true → is_binder h (Some v) ≡ true
+  is_binder_at h v s e list = rw e list
+
+  no_name : (o : Option P) → not (is_some o) ≡ true → o ≡ None
+  no_name None e = refl
+  no_name (Some v) e = absurd (true≢false (sym e))
+
+  no_kids : (ps : List P) → has_none ps ≡ true → ps ≡ []
+  no_kids [] e = refl
+  no_kids (p ∷ ps) e = absurd (true≢false (sym e))
+
+  -- the layer of a list of variables is that of its kinds
+  variables_layer : (l : Layer P) → is_variable_list l ≡ true → l ≡ record { label = record { word = VariableList; fields = map OfKind (kinds_among l.label.fields) }; binder = None; kids = [] }
+  variables_layer l e =
+      let a = and_parts _ (has_none l.kids) e in
+      let b = and_parts _ (not (is_some l.binder)) a.0 in
+      let c = and_parts (same_word l.label.word VariableList) (are_kinds l.label.fields) b.0 in
+      let word = (word_decides l.label.word VariableList).0 c.0 in
+      let fields = fields_are_kinds l.label.fields c.1 in
+      let binder = no_name l.binder b.1 in
+      let kids = no_kids l.kids a.1 in
+      λ i. record { label = record { word = word i; fields = fields i }; binder = binder i; kids = kids i }
+
+  -- binders and kids are live where all names of a layer are
+  pub names_live : (F : P → Type 0) (h : Heap P) → ((v : P) → IsLive h v → F v) → (o : Option P) (ps : List P) → is_binder h o ≡ true → Each F ps → Each F (with_binder o ps)
+  names_live F h live None ps ok all = all
+  names_live F h live (Some v) ps ok all = let x = binder_node h v ok in (live v (live_at h v x.0 x.1), all)
+
+  pub kids_of_names : (F : P → Type 0) (o : Option P) (ps : List P) → Each F (with_binder o ps) → Each F ps
+  kids_of_names F None ps all = all
+  kids_of_names F (Some v) ps all = all.1
+
+  -- a heap that extends another one has its binders, with the same variables
+  module _ (h k : Heap P) (more : Extends h k) where
+    binder_kept : (o : Option P) → is_binder h o ≡ true → is_binder k o ≡ true
+    binder_kept None ok = refl
+    binder_kept (Some v) ok = let x = binder_node h v ok in is_binder_at k v x.0 (more v x.0 x.1) x.2
+
+    bind_kept : (o : Option P) → is_binder h o ≡ true → option_map (kinds_at k) o ≡ option_map (kinds_at h) o
+    bind_kept None ok = refl
+    bind_kept (Some v) ok = let x = binder_node h v ok in ap Some (kinds_at_node k v x.0 (more v x.0 x.1) ∙ sym (kinds_at_node h v x.0 x.1))
+
+    shape_kept : (l : Layer P) → is_binder h l.binder ≡ true → shape_over k l ≡ shape_over h l
+    shape_kept l ok = ap (λ b. record { label = l.label; bind = b }) (bind_kept l.binder ok)
+
+  tree_at-suc : (h : Heap P) (n : ℕ) (p : P) (s : Sketch P) → h p ≡ Some s → tree_at (suc n) h p ≡ plant (shape_over h s.layer) (forest (tree_at n h) s.layer.kids)
   unfolding tree_at
-  tree_at-suc h n p s e = ap (tree_of_sketch (tree_at n h)) e
+  tree_at-suc h n p s e = ap (tree_of_sketch h (tree_at n h)) e
 
   module _ (h : Heap P) (sound : IsSound h) where
     -- each kid is live and lower
-    pub kids_below : (p : P) (s : Sketch P) (n : ℕ) → h p ≡ Some s → s.height ≤ suc n → Each (λ k. IsLive h k × (cached_height h k ≤ n)) s.kids
+    pub kids_below : (p : P) (s : Sketch P) (n : ℕ) → h p ≡ Some s → s.height ≤ suc n → Each (λ k. IsLive h k × (cached_height h k ≤ n)) s.layer.kids
     kids_below p s n e low =
         let eq = sound.height p s e in
-        Each-both (IsLive h) (λ k. cached_height h k ≤ n) s.kids (sound.kids p s e)
-        (Each-largest (cached_height h) n s.kids (omega arith))
+        Each-both (IsLive h) (λ k. cached_height h k ≤ n) s.layer.kids (sound.kids p s e)
+        (Each-largest (cached_height h) n s.layer.kids (omega arith))
 
     pub positive : (p : P) → IsLive h p → 0 < cached_height h p
     positive p live =
@@ -112,20 +169,40 @@ module _ {P : Type 0} where
         let a = cached_height_at h p x.0 x.1 in
         let b = sound.height p x.0 x.1 in omega arith
 
+    -- binders with the same variables are the same
+    binder_told : (a b : Option P) → is_binder h a ≡ true → is_binder h b ≡ true → option_map (kinds_at h) a ≡ option_map (kinds_at h) b → a ≡ b
+    binder_told None None p q e = refl
+    binder_told None (Some w) p q e = absurd (none-some (kinds_at h w) e)
+    binder_told (Some v) None p q e = absurd (none-some (kinds_at h v) (sym e))
+    binder_told (Some v) (Some w) p q e =
+        let x = binder_node h v p in
+        let y = binder_node h w q in
+        let kinds = sym (kinds_at_node h v x.0 x.1) ∙ same_Some (kinds_at h v) (kinds_at h w) e ∙ kinds_at_node h w y.0 y.1 in
+        let layers = variables_layer x.0.layer x.2
+        ∙ ap (λ ks. record { label = record { word = VariableList; fields = map OfKind ks }; binder = None; kids = [] }) kinds
+        ∙ sym (variables_layer y.0.layer y.2) in
+        ap Some (sound.distinct v w x.0 y.0 x.1 y.1 layers)
+
+    -- shapes and kids tell layers
+    layer_told : (l m : Layer P) → is_binder h l.binder ≡ true → is_binder h m.binder ≡ true → shape_over h l ≡ shape_over h m → l.kids ≡ m.kids → l ≡ m
+    layer_told l m p q shapes kids =
+        let labels = ap (λ (s : Shape). s.label) shapes in
+        let binders = binder_told l.binder m.binder p q (ap (λ (s : Shape). s.bind) shapes) in
+        λ i. record { label = labels i; binder = binders i; kids = kids i }
+
     -- the tree is the same at each depth from the height on, in this heap and in one that extends it
     pub tree_at-same : (k : Heap P) → Extends h k → (n m : ℕ) (p : P) → IsLive h p → cached_height h p ≤ n → cached_height h p ≤ m → tree_at n h p ≡ tree_at m k p
     tree_at-same k more zero m p live a b = let z = positive p live in absurd (omega arith)
     tree_at-same k more (suc n) zero p live a b = let z = positive p live in absurd (omega arith)
     tree_at-same k more (suc n) (suc m) p live a b =
         let x = node_of h p live in
-        let s = x.0 in
         let c = cached_height_at h p x.0 x.1 in
         let low = kids_below p x.0 n x.1 (omega arith) in
         let lower = kids_below p x.0 m x.1 (omega arith) in
         tree_at-suc h n p x.0 x.1
-        ∙ ap (plant x.0.shape) (forest-same (tree_at n h) (tree_at m k) x.0.kids
+        ∙ ap₂ plant (sym (shape_kept h k more x.0.layer (sound.binder p x.0 x.1))) (forest-same (tree_at n h) (tree_at m k) x.0.layer.kids
         (Each-map (λ q. (IsLive h q × (cached_height h q ≤ n)) × (IsLive h q × (cached_height h q ≤ m))) (λ q. tree_at n h q ≡ tree_at m k q)
-        (λ q w. tree_at-same k more n m q w.0.0 w.0.1 w.1.1) x.0.kids (Each-both _ _ x.0.kids low lower)))
+        (λ q w. tree_at-same k more n m q w.0.0 w.0.1 w.1.1) x.0.layer.kids (Each-both _ _ x.0.layer.kids low lower)))
         ∙ sym (tree_at-suc k m p x.0 (more p x.0 x.1))
 
     tree_at-injective : (n : ℕ) (p q : P) → IsLive h p → IsLive h q → cached_height h p ≤ n → cached_height h q ≤ n → tree_at n h p ≡ tree_at n h q → p ≡ q
@@ -136,24 +213,31 @@ module _ {P : Type 0} where
         let cx = cached_height_at h p x.0 x.1 in
         let cy = cached_height_at h q y.0 y.1 in
         let nodes = sym (tree_at-suc h n p x.0 x.1) ∙ e ∙ tree_at-suc h n q y.0 y.1 in
-        let shapes = plant-shape x.0.shape y.0.shape (forest (tree_at n h) x.0.kids) (forest (tree_at n h) y.0.kids) nodes in
-        let forests = plant-kids x.0.shape y.0.shape (forest (tree_at n h) x.0.kids) (forest (tree_at n h) y.0.kids) nodes in
-        sound.distinct p q x.0 y.0 x.1 y.1 shapes
-        (forest-injective (tree_at n h) (λ k. IsLive h k × (cached_height h k ≤ n))
-        (λ i j c d. tree_at-injective n i j c.0 d.0 c.1 d.1) x.0.kids y.0.kids
-        (kids_below p x.0 n x.1 (omega arith)) (kids_below q y.0 n y.1 (omega arith)) forests)
+        let shapes = plant-shape (shape_over h x.0.layer) (shape_over h y.0.layer) (forest (tree_at n h) x.0.layer.kids) (forest (tree_at n h) y.0.layer.kids) nodes in
+        let forests = plant-kids (shape_over h x.0.layer) (shape_over h y.0.layer) (forest (tree_at n h) x.0.layer.kids) (forest (tree_at n h) y.0.layer.kids) nodes in
+        let kids = forest-injective (tree_at n h) (λ k. IsLive h k × (cached_height h k ≤ n))
+        (λ i j c d. tree_at-injective n i j c.0 d.0 c.1 d.1) x.0.layer.kids y.0.layer.kids
+        (kids_below p x.0 n x.1 (omega arith)) (kids_below q y.0 n y.1 (omega arith)) forests in
+        sound.distinct p q x.0 y.0 x.1 y.1 (layer_told x.0.layer y.0.layer (sound.binder p x.0 x.1) (sound.binder q y.0 y.1) shapes kids)
 
-    pub tree_of-node : (p : P) (s : Sketch P) → h p ≡ Some s → tree_of h p ≡ plant s.shape (forest (tree_of h) s.kids)
+    pub tree_of-node : (p : P) (s : Sketch P) → h p ≡ Some s → tree_of h p ≡ tree_above h s.layer
     unfolding tree_of
     tree_of-node p s e =
         let c = cached_height_at h p s e in
         let eq = sound.height p s e in
-        let n : ℕ = largest (cached_height h) s.kids in
-        let low = kids_below p s (largest (cached_height h) s.kids) e (omega arith) in
-        ap (λ d. tree_at d h p) (c ∙ eq) ∙ tree_at-suc h (largest (cached_height h) s.kids) p s e
-        ∙ ap (plant s.shape) (forest-same (tree_at (largest (cached_height h) s.kids) h) (tree_of h) s.kids
-        (Each-map (λ q. IsLive h q × (cached_height h q ≤ largest (cached_height h) s.kids)) (λ q. tree_at (largest (cached_height h) s.kids) h q ≡ tree_of h q)
-        (λ q w. tree_at-same h (λ _ _ same. same) (largest (cached_height h) s.kids) (cached_height h q) q w.0 w.1 (omega arith)) s.kids low))
+        let low = kids_below p s (largest (cached_height h) s.layer.kids) e (omega arith) in
+        ap (λ d. tree_at d h p) (c ∙ eq) ∙ tree_at-suc h (largest (cached_height h) s.layer.kids) p s e
+        ∙ ap (plant (shape_over h s.layer)) (forest-same (tree_at (largest (cached_height h) s.layer.kids) h) (tree_of h) s.layer.kids
+        (Each-map (λ q. IsLive h q × (cached_height h q ≤ largest (cached_height h) s.layer.kids)) (λ q. tree_at (largest (cached_height h) s.layer.kids) h q ≡ tree_of h q)
+        (λ q w. tree_at-same h (λ _ _ same. same) (largest (cached_height h) s.layer.kids) (cached_height h q) q w.0 w.1 (omega arith)) s.layer.kids low))
+
+    -- a binder stands for the list of its variables
+    pub binder_tree : (v : P) → is_binder h (Some v) ≡ true → IsLive h v × (tree_of h v ≡ variable_list (kinds_at h v))
+    binder_tree v ok =
+        let x = binder_node h v ok in (
+          live_at h v x.0 x.1,
+          tree_of-node v x.0 x.1 ∙ ap (tree_above h) (variables_layer x.0.layer x.2) ∙ ap variable_list (sym (kinds_at_node h v x.0 x.1)),
+        )
 
     -- two live names with one tree are one name
     pub tree_of-injective : (p q : P) → IsLive h p → IsLive h q → tree_of h p ≡ tree_of h q → p ≡ q
@@ -172,7 +256,17 @@ module _ {P : Type 0} where
           (let x = node_of h p live in let a = cached_height_at h p x.0 x.1 in let b = cached_height_at k p x.0 (more p x.0 x.1) in omega arith));
       height = λ p live. let x = node_of h p live in cached_height_at k p x.0 (more p x.0 x.1) ∙ sym (cached_height_at h p x.0 x.1);
       size = λ p live. let x = node_of h p live in cached_size_at k p x.0 (more p x.0 x.1) ∙ sym (cached_size_at h p x.0 x.1);
+      flags = λ p live. let x = node_of h p live in cached_flags_at k p x.0 (more p x.0 x.1) ∙ sym (cached_flags_at h p x.0 x.1);
+      outer = λ p live. let x = node_of h p live in cached_outer_at k p x.0 (more p x.0 x.1) ∙ sym (cached_outer_at h p x.0 x.1);
+      kinds = λ p live. let x = node_of h p live in kinds_at_node k p x.0 (more p x.0 x.1) ∙ sym (kinds_at_node h p x.0 x.1);
     }
+
+    -- the cached flags and the cached outer binder are those of the tree
+    pub cached_flags-tree_of : (p : P) → IsLive h p → cached_flags h p ≡ flags_in (tree_of h p)
+    cached_flags-tree_of p live = let x = node_of h p live in cached_flags_at h p x.0 x.1 ∙ sound.flags p x.0 x.1 ∙ ap flags_in (sym (tree_of-node p x.0 x.1))
+
+    pub cached_outer-tree_of : (p : P) → IsLive h p → cached_outer h p ≡ outer_in (tree_of h p)
+    cached_outer-tree_of p live = let x = node_of h p live in cached_outer_at h p x.0 x.1 ∙ sound.outer p x.0 x.1 ∙ ap outer_in (sym (tree_of-node p x.0 x.1))
 
     height_at : (n : ℕ) (p : P) → IsLive h p → cached_height h p ≤ n → height (tree_at n h p) ≡ cached_height h p
     height_at zero p live a = let z = positive p live in absurd (omega arith)
@@ -182,9 +276,9 @@ module _ {P : Type 0} where
         let eq = sound.height p x.0 x.1 in
         let low = kids_below p x.0 n x.1 (omega arith) in
         ap height (tree_at-suc h n p x.0 x.1)
-        ∙ height-plant x.0.shape (forest (tree_at n h) x.0.kids)
-        ∙ ap suc (heights-forest (tree_at n h) (cached_height h) x.0.kids
-        (Each-map (λ q. IsLive h q × (cached_height h q ≤ n)) (λ q. height (tree_at n h q) ≡ cached_height h q) (λ q w. height_at n q w.0 w.1) x.0.kids low))
+        ∙ height-plant (shape_over h x.0.layer) (forest (tree_at n h) x.0.layer.kids)
+        ∙ ap suc (heights-forest (tree_at n h) (cached_height h) x.0.layer.kids
+        (Each-map (λ q. IsLive h q × (cached_height h q ≤ n)) (λ q. height (tree_at n h q) ≡ cached_height h q) (λ q w. height_at n q w.0 w.1) x.0.layer.kids low))
         ∙ sym eq ∙ sym c
 
     -- the cached height is that of the tree
@@ -200,15 +294,27 @@ module _ {P : Type 0} where
         let d = cached_height_at h p x.0 x.1 in
         let eq = sound.size p x.0 x.1 in
         let low = kids_below p x.0 n x.1 (omega arith) in
-        let all = sizes-forest (tree_at n h) (cached_size h) x.0.kids
-        (Each-map (λ q. IsLive h q × (cached_height h q ≤ n)) (λ q. cached_size h q ≡ min size_cap (size (tree_at n h q))) (λ q w. size_at n q w.0 w.1) x.0.kids low) in
-        let whole = ap size (tree_at-suc h n p x.0 x.1) ∙ size-plant x.0.shape (forest (tree_at n h) x.0.kids) in
+        let all = sizes-forest (tree_at n h) (cached_size h) x.0.layer.kids
+        (Each-map (λ q. IsLive h q × (cached_height h q ≤ n)) (λ q. cached_size h q ≡ min size_cap (size (tree_at n h q))) (λ q w. size_at n q w.0 w.1) x.0.layer.kids low) in
+        let whole = ap size (tree_at-suc h n p x.0 x.1) ∙ size-plant (shape_over h x.0.layer) (forest (tree_at n h) x.0.layer.kids) in
         omega arith
 
     -- the cached size is that of the tree, up to the cap
     pub cached_size-tree_of : (p : P) → IsLive h p → cached_size h p ≡ min size_cap (size (tree_of h p))
     unfolding tree_of
     cached_size-tree_of p live = size_at (cached_height h p) p live (omega arith)
+
+    -- the tree of a layer over live kids is as high as is said
+    pub height_of_above : (l : Layer P) → Each (IsLive h) l.kids → height (tree_above h l) ≡ height_above h l
+    height_of_above l live = height-plant (shape_over h l) (forest (tree_of h) l.kids)
+        ∙ ap suc (heights-forest (tree_of h) (cached_height h) l.kids (Each-map (IsLive h) (λ p. height (tree_of h p) ≡ cached_height h p) height-tree_of l.kids live))
+
+    -- and as large
+    pub size_of_above : (l : Layer P) → Each (IsLive h) l.kids → size_above h l ≡ min size_cap (size (tree_above h l))
+    size_of_above l live =
+        let whole = size-plant (shape_over h l) (forest (tree_of h) l.kids) in
+        let all = sizes-forest (tree_of h) (cached_size h) l.kids (Each-map (IsLive h) (λ p. cached_size h p ≡ min size_cap (size (tree_of h p))) cached_size-tree_of l.kids live) in
+        omega arith
 
   -- a node that is put under a new name keeps the heap sound
   module _ (h k : Heap P) (sound : IsSound h) (p : P) (s : Sketch P) (adds : Adds h k p s) where
@@ -234,44 +340,53 @@ module _ {P : Type 0} where
         by (inl same) = inl (same, (let a = adds.after in let x = ap k same in cc))
         by (inr same) = inr (sym same ∙ e)
 
-    height_kept : (ps : List P) → Each (IsLive h) ps → height_above k ps ≡ height_above h ps
-    height_kept ps live = ap suc (largest-same (cached_height k) (cached_height h) ps
-        (Each-map (IsLive h) (λ q. cached_height k q ≡ cached_height h q) (grows h sound k extends).height ps live))
+    -- what holds of the new node and of the older ones holds of all
+    every : (A : Sketch P → Type 0) → A s → ((q : P) (t : Sketch P) → h q ≡ Some t → A t) → (q : P) (t : Sketch P) → k q ≡ Some t → A t
+    every A new old q t e = by (either_node q t e)
+      where
+        by : ((q ≡ p) × (t ≡ s)) ⊎ (h q ≡ Some t) → A t
+        by (inl w) = subst A (sym w.1) new
+        by (inr w) = old q t w
 
-    size_kept : (shape : Shape) (ps : List P) → Each (IsLive h) ps → size_above k shape ps ≡ size_above h shape ps
-    size_kept shape ps live = ap (λ n. min size_cap (own_size shape + n)) (total-same (cached_size k) (cached_size h) ps
-        (Each-map (IsLive h) (λ q. cached_size k q ≡ cached_size h q) (grows h sound k extends).size ps live))
+    -- a layer over live kids and a binder is as it was
+    module _ (l : Layer P) (kids : Each (IsLive h) l.kids) (binder : is_binder h l.binder ≡ true) where
+      height_kept : height_above k l ≡ height_above h l
+      height_kept = ap suc (largest-same (cached_height k) (cached_height h) l.kids
+          (Each-map (IsLive h) (λ q. cached_height k q ≡ cached_height h q) (grows h sound k extends).height l.kids kids))
 
-    module _ (kids : Each (IsLive h) s.kids) (height : s.height ≡ height_above h s.kids) (size : s.size ≡ size_above h s.shape s.kids)
-        (fresh : (q : P) (t : Sketch P) → h q ≡ Some t → t.shape ≡ s.shape → t.kids ≡ s.kids → ⊥) where
-      old_kids : (q : P) (t : Sketch P) → k q ≡ Some t → Each (IsLive h) t.kids
-      old_kids q t e = by (either_node q t e)
-        where
-          by : ((q ≡ p) × (t ≡ s)) ⊎ (h q ≡ Some t) → Each (IsLive h) t.kids
-          by (inl w) = subst (λ (u : Sketch P). Each (IsLive h) u.kids) (sym w.1) kids
-          by (inr w) = sound.kids q t w
+      size_kept : size_above k l ≡ size_above h l
+      size_kept = ap₂ (λ s n. min size_cap (own_size s + n)) (shape_kept h k extends l binder) (total-same (cached_size k) (cached_size h) l.kids
+          (Each-map (IsLive h) (λ q. cached_size k q ≡ cached_size h q) (grows h sound k extends).size l.kids kids))
+
+      pub tree_kept : tree_above k l ≡ tree_above h l
+      tree_kept = ap₂ plant (shape_kept h k extends l binder) (forest-same (tree_of k) (tree_of h) l.kids
+          (Each-map (IsLive h) (λ q. tree_of k q ≡ tree_of h q) (grows h sound k extends).tree l.kids kids))
+
+    module _ (kids : Each (IsLive h) s.layer.kids) (binder : is_binder h s.layer.binder ≡ true) (height : s.height ≡ height_above h s.layer) (size : s.size ≡ size_above h s.layer)
+        (flags : s.flags ≡ flags_in (tree_above h s.layer)) (outer : s.outer ≡ outer_in (tree_above h s.layer))
+        (fresh : (q : P) (t : Sketch P) → h q ≡ Some t → t.layer ≡ s.layer → ⊥) where
+      all_kids : (q : P) (t : Sketch P) → k q ≡ Some t → Each (IsLive h) t.layer.kids
+      all_kids = every (λ t. Each (IsLive h) t.layer.kids) kids sound.kids
+
+      all_binders : (q : P) (t : Sketch P) → k q ≡ Some t → is_binder h t.layer.binder ≡ true
+      all_binders = every (λ t. is_binder h t.layer.binder ≡ true) binder sound.binder
 
       pub sound_after : IsSound k
       sound_after = record {
-        kids = λ q t e. Each-map (IsLive h) (IsLive k) (grows h sound k extends).live t.kids (old_kids q t e);
-        height = λ q t e. at_height q t e (either_node q t e) ∙ sym (height_kept t.kids (old_kids q t e));
-        size = λ q t e. at_size q t e (either_node q t e) ∙ sym (size_kept t.shape t.kids (old_kids q t e));
-        distinct = λ q r t u e f shapes ks. one q r t u shapes ks (either_node q t e) (either_node r u f);
+        kids = λ q t e. Each-map (IsLive h) (IsLive k) (grows h sound k extends).live t.layer.kids (all_kids q t e);
+        binder = λ q t e. binder_kept h k extends t.layer.binder (all_binders q t e);
+        height = λ q t e. every (λ t. t.height ≡ height_above h t.layer) height sound.height q t e ∙ sym (height_kept t.layer (all_kids q t e) (all_binders q t e));
+        size = λ q t e. every (λ t. t.size ≡ size_above h t.layer) size sound.size q t e ∙ sym (size_kept t.layer (all_kids q t e) (all_binders q t e));
+        flags = λ q t e. every (λ t. t.flags ≡ flags_in (tree_above h t.layer)) flags sound.flags q t e ∙ ap flags_in (sym (tree_kept t.layer (all_kids q t e) (all_binders q t e)));
+        outer = λ q t e. every (λ t. t.outer ≡ outer_in (tree_above h t.layer)) outer sound.outer q t e ∙ ap outer_in (sym (tree_kept t.layer (all_kids q t e) (all_binders q t e)));
+        distinct = λ q r t u e f layers. one q r t u layers (either_node q t e) (either_node r u f);
       }
         where
-          at_height : (q : P) (t : Sketch P) → k q ≡ Some t → ((q ≡ p) × (t ≡ s)) ⊎ (h q ≡ Some t) → t.height ≡ height_above h t.kids
-          at_height q t e (inl w) = subst (λ (u : Sketch P). u.height ≡ height_above h u.kids) (sym w.1) height
-          at_height q t e (inr w) = sound.height q t w
-
-          at_size : (q : P) (t : Sketch P) → k q ≡ Some t → ((q ≡ p) × (t ≡ s)) ⊎ (h q ≡ Some t) → t.size ≡ size_above h t.shape t.kids
-          at_size q t e (inl w) = subst (λ (u : Sketch P). u.size ≡ size_above h u.shape u.kids) (sym w.1) size
-          at_size q t e (inr w) = sound.size q t w
-
-          one : (q r : P) (t u : Sketch P) → t.shape ≡ u.shape → t.kids ≡ u.kids → ((q ≡ p) × (t ≡ s)) ⊎ (h q ≡ Some t) → ((r ≡ p) × (u ≡ s)) ⊎ (h r ≡ Some u) → q ≡ r
-          one q r t u shapes ks (inl a) (inl b) = a.0 ∙ sym b.0
-          one q r t u shapes ks (inl a) (inr b) = absurd (fresh r u b (sym shapes ∙ ap (λ (x : Sketch P). x.shape) a.1) (sym ks ∙ ap (λ (x : Sketch P). x.kids) a.1))
-          one q r t u shapes ks (inr a) (inl b) = absurd (fresh q t a (shapes ∙ ap (λ (x : Sketch P). x.shape) b.1) (ks ∙ ap (λ (x : Sketch P). x.kids) b.1))
-          one q r t u shapes ks (inr a) (inr b) = sound.distinct q r t u a b shapes ks
+          one : (q r : P) (t u : Sketch P) → t.layer ≡ u.layer → ((q ≡ p) × (t ≡ s)) ⊎ (h q ≡ Some t) → ((r ≡ p) × (u ≡ s)) ⊎ (h r ≡ Some u) → q ≡ r
+          one q r t u layers (inl a) (inl b) = a.0 ∙ sym b.0
+          one q r t u layers (inl a) (inr b) = absurd (fresh r u b (sym layers ∙ ap (λ (x : Sketch P). x.layer) a.1))
+          one q r t u layers (inr a) (inl b) = absurd (fresh q t a (layers ∙ ap (λ (x : Sketch P). x.layer) b.1))
+          one q r t u layers (inr a) (inr b) = sound.distinct q r t u a b layers
 
 module _ {P : Type 0} (set : IsSet P) where
   Each-live-prop : (h : Heap P) (ps : List P) → IsProp (Each (IsLive h) ps)
@@ -282,56 +397,50 @@ module _ {P : Type 0} (set : IsSet P) where
   IsSound-prop h = hlevel (props, Each-live-prop h)
 
 -- what a caller of `new` is told, where the node is new and where it is there
-module _ {P : Type 0} (h : Heap P) (sound : IsSound h) (shape : Shape) (kids : List P) (live : Each (IsLive h) kids) where
-  -- a held node has one name, whose shape and kids it has
-  pub held_node : (q : P) → IsLive h q → tree_of h q ≡ plant shape (forest (tree_of h) kids) → (s : Sketch P) × (h q ≡ Some s) × (s.shape ≡ shape) × (s.kids ≡ kids)
+module _ {P : Type 0} (h : Heap P) (sound : IsSound h) (l : Layer P) (kids : Each (IsLive h) l.kids) (binder : is_binder h l.binder ≡ true) where
+  -- a held node has one name, whose layer it has
+  pub held_node : (q : P) → IsLive h q → tree_of h q ≡ tree_above h l → (s : Sketch P) × (h q ≡ Some s) × (s.layer ≡ l)
   held_node q lq e =
       let x = node_of h q lq in
       let nodes = sym (tree_of-node h sound q x.0 x.1) ∙ e in
-      let shapes = plant-shape x.0.shape shape (forest (tree_of h) x.0.kids) (forest (tree_of h) kids) nodes in
-      let forests = plant-kids x.0.shape shape (forest (tree_of h) x.0.kids) (forest (tree_of h) kids) nodes in
-      (x.0, x.1, shapes, forest-injective (tree_of h) (IsLive h) (λ p r a b. tree_of-injective h sound p r a b) x.0.kids kids (sound.kids q x.0 x.1) live forests)
+      let shapes = plant-shape (shape_over h x.0.layer) (shape_over h l) (forest (tree_of h) x.0.layer.kids) (forest (tree_of h) l.kids) nodes in
+      let forests = plant-kids (shape_over h x.0.layer) (shape_over h l) (forest (tree_of h) x.0.layer.kids) (forest (tree_of h) l.kids) nodes in
+      let same = forest-injective (tree_of h) (IsLive h) (λ p r a b. tree_of-injective h sound p r a b) x.0.layer.kids l.kids (sound.kids q x.0 x.1) kids forests in
+      (x.0, x.1, layer_told h sound x.0.layer l (sound.binder q x.0 x.1) binder shapes same)
 
-  pub interns_held : (p : P) (s : Sketch P) → h p ≡ Some s → s.shape ≡ shape → s.kids ≡ kids → Interns h h shape kids p
-  interns_held p s e a b = record {
+  pub interns_held : (p : P) (s : Sketch P) → h p ≡ Some s → s.layer ≡ l → Interns h h l p
+  interns_held p s e a = record {
     live = live_at h p s e;
-    tree = tree_of-node h sound p s e ∙ (λ i. plant (a i) (forest (tree_of h) (b i)));
-    grows = record { live = λ q l. l; tree = λ q l. refl; height = λ q l. refl; size = λ q l. refl };
+    tree = tree_of-node h sound p s e ∙ ap (tree_above h) a;
+    grows = Grows-refl h;
     only = λ q l. inl l;
     kept = λ _. refl;
   }
 
-  pub interns_new : (k : Heap P) (p : P) (s : Sketch P) → Adds h k p s → IsSound k → s.shape ≡ shape → s.kids ≡ kids → Interns h k shape kids p
-  interns_new k p s adds after a b =
-      let more = extends h k sound p s adds in
-      let g = grows h sound k more in
-      record {
-        live = live_at k p s adds.after;
-        tree = tree_of-node k after p s adds.after ∙ (λ i. plant (a i) (forest (tree_of k) (b i)))
-            ∙ ap (plant shape) (forest-same (tree_of k) (tree_of h) kids (Each-map (IsLive h) (λ q. tree_of k q ≡ tree_of h q) g.tree kids live));
-        grows = g;
-        only = live_only h k sound p s adds;
-        kept = λ l. absurd (true≢false (sym l ∙ ap is_some adds.before));
-      }
+  pub interns_new : (k : Heap P) (p : P) (s : Sketch P) → Adds h k p s → IsSound k → s.layer ≡ l → Interns h k l p
+  interns_new k p s adds after a = record {
+    live = live_at k p s adds.after;
+    tree = tree_of-node k after p s adds.after ∙ ap (tree_above k) a ∙ tree_kept h k sound p s adds l kids binder;
+    grows = grows h sound k (extends h k sound p s adds);
+    only = live_only h k sound p s adds;
+    kept = λ l. absurd (true≢false (sym l ∙ ap is_some adds.before));
+  }
 
-pub has_node : {P : Type 0} (h : Heap P) → IsSound h → (p : P) (s : Sketch P) → h p ≡ Some s → HasNode h p s.shape s.kids
+pub has_node : {P : Type 0} (h : Heap P) → IsSound h → (p : P) (s : Sketch P) → h p ≡ Some s → HasNode h p s.layer
 has_node h sound p s e = record {
   tree = tree_of-node h sound p s e;
-  kids_live = sound.kids p s e;
+  live = names_live (IsLive h) h (λ v l. l) s.layer.binder s.layer.kids (sound.binder p s e) (sound.kids p s e);
   height = cached_height_at h p s e ∙ sound.height p s e;
   size = cached_size_at h p s e ∙ sound.size p s e;
 }
 
 -- each kid of a node is live and lower: what a recursion over handles goes by
-pub kids_lower : {P : Type 0} (h : Heap P) (p : P) (shape : Shape) (kids : List P) → HasNode h p shape kids → Each (λ k. IsLive h k × (cached_height h k < cached_height h p)) kids
-kids_lower h p shape kids has =
+pub kids_lower : {P : Type 0} (h : Heap P) (p : P) (l : Layer P) → HasNode h p l → Each (λ k. IsLive h k × (cached_height h k < cached_height h p)) l.kids
+kids_lower h p l has =
     let e = has.height in
-    Each-both (IsLive h) (λ k. cached_height h k < cached_height h p) kids has.kids_live
-    (Each-map (λ k. cached_height h k ≤ largest (cached_height h) kids) (λ k. cached_height h k < cached_height h p) (λ k le. omega arith) kids
-    (Each-largest (cached_height h) (largest (cached_height h) kids) kids (omega arith)))
-
-pub Grows-refl : {P : Type 0} (h : Heap P) → Grows h h
-Grows-refl h = record { live = λ p l. l; tree = λ p l. refl; height = λ p l. refl; size = λ p l. refl }
+    Each-both (IsLive h) (λ k. cached_height h k < cached_height h p) l.kids (kids_of_names (IsLive h) l.binder l.kids has.live)
+    (Each-map (λ k. cached_height h k ≤ largest (cached_height h) l.kids) (λ k. cached_height h k < cached_height h p) (λ k le. omega arith) l.kids
+    (Each-largest (cached_height h) (largest (cached_height h) l.kids) l.kids (omega arith)))
 
 pub Grows-trans : {P : Type 0} (h k m : Heap P) → Grows h k → Grows k m → Grows h m
 Grows-trans h k m a b = record {
@@ -339,6 +448,9 @@ Grows-trans h k m a b = record {
   tree = λ p l. b.tree p (a.live p l) ∙ a.tree p l;
   height = λ p l. b.height p (a.live p l) ∙ a.height p l;
   size = λ p l. b.size p (a.live p l) ∙ a.size p l;
+  flags = λ p l. b.flags p (a.live p l) ∙ a.flags p l;
+  outer = λ p l. b.outer p (a.live p l) ∙ a.outer p l;
+  kinds = λ p l. b.kinds p (a.live p l) ∙ a.kinds p l;
 }
 
 Part-set : IsSet Part

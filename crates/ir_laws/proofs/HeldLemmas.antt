@@ -1,12 +1,15 @@
 -- What a heap holds, call by call.
-use Rattle.std.proofs.Common.{◌≡◌, ℕ, ◌+◌, true, List, [], length, None, ◌⊎◌, ⊎_elim, refl, sym, ap, ◌∙◌, true≢false, is_some, arith}
+use Rattle.std.proofs.Common.{◌≡◌, ℕ, ◌+◌, Bool, true, false, List, [], ◌∷◌, ◌++◌, length, Option, None, Some, ◌⊎◌, ⊎_elim, refl, sym, ap, ◌∙◌, true≢false, is_some, arith}
 use Rattle.std.proofs.Props.{props}
-use Rattle.ir_laws.specs.Tree.{Term}
-use Rattle.ir_laws.specs.Parts.{is_part, is_set, with_part}
-use Rattle.ir_laws.specs.Heap.{Heap, tree_of, IsLive, IsSound, Grows}
+use Rattle.ir_core.specs.declared.ids.SolverDefId.{SolverDefId}
+use Rattle.std.specs.Option.{option_map}
+use Rattle.ir_laws.specs.Tree.{Kind, Label, Var, Param, Node, End, And, Term, Terms}
+use Rattle.ir_laws.specs.Parts.{is_counted, variable_list, variable_lists, if_counted, parts, all_parts, is_part, is_set, with_part}
+use Rattle.ir_laws.specs.Heap.{Shape, Layer, Heap, Each, forest, plant, shape_over, kinds_at, is_binder, tree_of, IsLive, IsSound, Grows}
 use Rattle.ir_laws.specs.Held.{Stands, HoldsJust, Counts}
-use Rattle.ir_laws.proofs.HeapLemmas.{tree_of-injective}
-use Rattle.ir_laws.proofs.PartSets.{no_part, with_part_either, with_part_held, with_part_new, with_part_set, without, without_held, without_only, without_set, without_shorter, without_one, no_longer}
+use Rattle.ir_laws.proofs.HeapLemmas.{tree_of-injective, node_of, tree_of-node, binder_tree}
+use Rattle.ir_laws.proofs.PlantLemmas.{shape_in, kids_in, planted_shape, planted_kids}
+use Rattle.ir_laws.proofs.PartSets.{no_part, part_of_cons, part_of_append, with_part_either, with_part_held, with_part_new, with_part_set, without, without_held, without_only, without_set, without_shorter, without_one, no_longer}
 
 module _ {P : Type 0} where
   -- a heap with no live name
@@ -86,3 +89,54 @@ module _ {P : Type 0} where
   -- a heap is counted by n in one way at most
   pub Counts-prop : (h : Heap P) (n : ℕ) → IsProp (Counts h n)
   Counts-prop h n = hlevel props
+
+-- ---- the parts of a tree that stands
+
+module _ {P : Type 0} (h : Heap P) (sound : IsSound h) where
+  -- what a node is made of
+  pub node_parts : (p : P) → IsLive h p → (l : Label SolverDefId) (b : Option (List (Kind SolverDefId))) (ts : Terms) → tree_of h p ≡ Node l b ts
+      → (m : Layer P) × Each (IsLive h) m.kids × (is_binder h m.binder ≡ true) × (option_map (kinds_at h) m.binder ≡ b) × (forest (tree_of h) m.kids ≡ ts)
+  node_parts p live l b ts is =
+      let x = node_of h p live in
+      let m : Layer P = x.0.layer in
+      let tree : plant (shape_over h x.0.layer) (forest (tree_of h) x.0.layer.kids) ≡ Node l b ts = sym (tree_of-node h sound p x.0 x.1) ∙ is in (
+        x.0.layer,
+        sound.kids p x.0 x.1,
+        sound.binder p x.0 x.1,
+        ap (λ (s : Shape). s.bind) (sym (planted_shape (shape_over h x.0.layer) (forest (tree_of h) x.0.layer.kids)) ∙ ap shape_in tree),
+        sym (planted_kids (shape_over h x.0.layer) (forest (tree_of h) x.0.layer.kids)) ∙ ap kids_in tree,
+      )
+
+  only_part : (t u : Term) → is_part (t ∷ []) u ≡ true → t ≡ u
+  only_part t u e = ⊎_elim (λ same. same) (λ none. absurd (no_part u none)) (part_of_cons t [] u e)
+
+  own_stands : (c : Bool) (p : P) (t u : Term) → IsLive h p → tree_of h p ≡ t → is_part (if_counted c t) u ≡ true → Stands h u
+  own_stands true p t u live is e = (p, live, is ∙ only_part t u e)
+  own_stands false p t u live is e = absurd (no_part u e)
+
+  binder_stands : (o : Option P) → is_binder h o ≡ true → (u : Term) → is_part (variable_lists (option_map (kinds_at h) o)) u ≡ true → Stands h u
+  binder_stands None ok u e = absurd (no_part u e)
+  binder_stands (Some v) ok u e = let w = binder_tree h sound v ok in (v, w.0, w.1 ∙ only_part (variable_list (kinds_at h v)) u e)
+
+  -- each part of a live name's tree stands
+  mutual
+    pub parts_stand : (t : Term) (p : P) → IsLive h p → tree_of h p ≡ t → (u : Term) → is_part (parts t) u ≡ true → Stands h u
+    parts_stand (Var i n k) p live is u e = own_stands true p (Var i n k) u live is e
+    parts_stand (Param q) p live is u e = own_stands true p (Param q) u live is e
+    parts_stand (Node l b ts) p live is u e =
+        let m = node_parts p live l b ts is in
+        ⊎_elim
+        (λ here. ⊎_elim
+        (own_stands (is_counted l b) p (Node l b ts) u live is)
+        (λ listed. binder_stands m.0.binder m.2 u (ap (λ c. is_part (variable_lists c) u) m.3 ∙ listed))
+        (part_of_append (if_counted (is_counted l b) (Node l b ts)) (variable_lists b) u here))
+        (all_stand ts m.0.kids m.1 m.4 u)
+        (part_of_append (if_counted (is_counted l b) (Node l b ts) ++ variable_lists b) (all_parts ts) u e)
+
+    all_stand : (ts : Terms) (ps : List P) → Each (IsLive h) ps → forest (tree_of h) ps ≡ ts → (u : Term) → is_part (all_parts ts) u ≡ true → Stands h u
+    all_stand End ps live is u e = absurd (no_part u e)
+    all_stand (And t ts) [] live is u e = absurd cc
+    all_stand (And t ts) (p ∷ ps) live is u e =
+        let one : tree_of h p ≡ t = cc in
+        let rest : forest (tree_of h) ps ≡ ts = cc in
+        ⊎_elim (parts_stand t p live.0 one u) (all_stand ts ps live.1 rest u) (part_of_append (parts t) (all_parts ts) u e)

@@ -15,6 +15,7 @@ pub mod Numerals
 pub mod Said
 pub mod Samples
 pub mod HeapLemmas
+pub mod PlantLemmas
 pub mod PartSets
 pub mod HeldLemmas
 pub mod FormedLemmas

@@ -62,7 +62,7 @@ an_unbuilt_label_is_no_term = refl
 an_unbuilt_label_is_no_member : said (codes "print (tuple (u8 u16))") ≡ Refused 1 (Syntax ∷ [])
 an_unbuilt_label_is_no_member = refl
 
-an_unbuilt_form_is_no_line : said (codes "flags u8") ≡ Refused 1 (Syntax ∷ [])
+an_unbuilt_form_is_no_line : said (codes "open u8") ≡ Refused 1 (Syntax ∷ [])
 an_unbuilt_form_is_no_line = refl
 
 -- ---- names and sorts
@@ -95,6 +95,11 @@ a_name_is_declared_once = refl
 
 same_wants_one_sort : said (codes "same u8 static") ≡ Refused 1 (WrongSort ∷ [])
 same_wants_one_sort = refl
+
+-- ---- `flags`
+
+flags_are_those_of_the_term : said (codes "flags u8\nflags erased\nflags (ref not static u8)") ≡ Wrote (codes "outer 0\nouter 0 HAS_RE_ERASED\nouter 0 HAS_FREE_REGIONS\n") 40
+flags_are_those_of_the_term = refl
 
 -- ---- limits
 

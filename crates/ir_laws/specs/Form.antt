@@ -181,7 +181,7 @@ all_forms = record { text = codes "item"; read = item_form }
 
 -- The forms that the grammar knows so far: a line that begins with another word has no form
 abbrev pub forms : List FormRow
-forms = record { text = codes "let"; read = let_form } ∷ record { text = codes "print"; read = one_term Print } ∷ record { text = codes "same"; read = two_terms Same } ∷ []
+forms = record { text = codes "let"; read = let_form } ∷ record { text = codes "print"; read = one_term Print } ∷ record { text = codes "same"; read = two_terms Same } ∷ record { text = codes "flags"; read = one_term Flags } ∷ []
 
 -- the form that begins with this word, of these further expressions
 abbrev pub form_begun : Text → List Expr → Option (Form Phrase)

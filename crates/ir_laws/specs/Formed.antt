@@ -1,5 +1,5 @@
--- What the grammar makes of expressions fits the table: each label has the fields and the kids that its row names.
-use Rattle.std.specs.Prelude.{Bool, true, false, ◌&&◌, ◌||◌, ◌≡◌, List, [], ◌∷◌, Some}
+-- What the grammar makes of expressions fits the table: each label has the fields and the kids that its row names, and binds where its row has a group for that.
+use Rattle.std.specs.Prelude.{Bool, true, false, ◌&&◌, ◌||◌, ◌≡◌, not, List, [], ◌∷◌, Option, Some, None}
 use Rattle.ir_laws.specs.declared.words.Word.{Word}
 use Rattle.ir_laws.specs.declared.words.Word.TheVariants.{ArgumentList}
 use Rattle.ir_laws.specs.declared.labels.Keyword.{Keyword}
@@ -9,13 +9,14 @@ use Rattle.ir_laws.specs.declared.labels.KidForm.{KidForm}
 use Rattle.ir_laws.specs.declared.labels.KidForm.TheVariants.{OneOf, TypeOrConstant, ListOf, ArgumentsOf}
 use Rattle.ir_laws.specs.declared.labels.Part.{Part}
 use Rattle.ir_laws.specs.declared.labels.Part.TheVariants.{Fixed, ForGroup, AField, AKid}
-use Rattle.ir_laws.specs.Tree.{Field, Number, Item, Chosen, OfKind, Memory}
+use Rattle.ir_laws.specs.Tree.{Kind, Field, Number, Item, Chosen, OfKind, Memory}
 use Rattle.ir_laws.specs.Word.{same_word, label_words}
 use Rattle.ir_laws.specs.Keyword.{same_keyword, choice_words}
 use Rattle.ir_laws.specs.Label.{row}
 use Rattle.ir_laws.specs.Expression.{Expr}
 use Rattle.ir_laws.specs.Phrase.{Phrase, Phrases, Name, Labelled, NoPhrase, ThenPhrase, phrase_of}
 use Rattle.ir_laws.specs.Names.{field_forms}
+use Rattle.ir_laws.specs.Parts.{has_for_group}
 use Rattle.ir_laws.specs.Sorts.{is_word_among}
 
 -- the forms of a label's kids
@@ -52,11 +53,16 @@ abbrev pub has_no_fields : {N : Type 0} → List (Field N) → Bool
 has_no_fields [] = true
 has_no_fields fields = false
 
--- A phrase that is no list has a label that is built, its row's fields, and for each kid form a kid; where that wants a list, a list of that word. A list has no fields, and members that are no lists
+-- the label binds, perhaps nothing, just where its row has a group of variable kinds
+abbrev pub bind_fits : {N : Type 0} → List Part → Option (List (Kind N)) → Bool
+bind_fits parts None = not (has_for_group parts)
+bind_fits parts (Some ks) = has_for_group parts
+
+-- A phrase that is no list has a label that is built, its row's fields, a group of variable kinds where its row has one, and for each kid form a kid; where that wants a list, a list of that word. A list has no fields, binds nothing, and has members that are no lists
 abbrev mutual
   pub is_formed : Phrase → Bool
   is_formed (Name name) = true
-  is_formed (Labelled l b ps) = is_word_among label_words l.word && fields_fit (field_forms (row l.word).parts) l.fields && kids_formed (kid_forms (row l.word).parts) ps
+  is_formed (Labelled l b ps) = is_word_among label_words l.word && fields_fit (field_forms (row l.word).parts) l.fields && bind_fits (row l.word).parts b && kids_formed (kid_forms (row l.word).parts) ps
 
   pub kids_formed : List KidForm → Phrases → Bool
   kids_formed [] NoPhrase = true
@@ -68,7 +74,7 @@ abbrev mutual
 
   pub is_list_formed : Word → Phrase → Bool
   is_list_formed list (Name name) = false
-  is_list_formed list (Labelled l b ps) = same_word l.word list && has_no_fields l.fields && all_formed ps
+  is_list_formed list (Labelled l b ps) = same_word l.word list && has_no_fields l.fields && bind_fits [] b && all_formed ps
 
   pub all_formed : Phrases → Bool
   all_formed NoPhrase = true

@@ -111,4 +111,4 @@ all_label_words = BoolType ∷ CharType ∷ StrType ∷ NeverType ∷ I8Type ∷
 
 -- The words that the grammar knows so far: a label of another word is no term
 abbrev pub label_words : List Word
-label_words = BoolType ∷ U8Type ∷ ReferenceType ∷ TupleType ∷ StaticRegion ∷ ErasedRegion ∷ []
+label_words = BoolType ∷ U8Type ∷ ReferenceType ∷ FnPtrType ∷ UnsafeBinderType ∷ TupleType ∷ StaticRegion ∷ ErasedRegion ∷ CanonicalVariable ∷ BoundVariable ∷ []

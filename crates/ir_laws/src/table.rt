@@ -624,11 +624,15 @@ impl Choice {
 }
 
 /// The words that the grammar knows so far, those with a fixed second word before those of the same first word without it.
-pub const LABEL_WORDS: [Word; 6] = [
+pub const LABEL_WORDS: [Word; 10] = [
     Word::BoolType,
     Word::U8Type,
     Word::ReferenceType,
+    Word::FnPtrType,
+    Word::UnsafeBinderType,
     Word::TupleType,
     Word::StaticRegion,
     Word::ErasedRegion,
+    Word::CanonicalVariable,
+    Word::BoundVariable,
 ];

@@ -1,11 +1,9 @@
 -- What a line meets and writes, and what the lines do together.
-use Rattle.std.proofs.Common.{◌≡◌, ◌∙◌, ◌≤◌, ◌<◌, ℕ, suc, max, Bool, true, false, cond, ◌&&◌, nat_le, List, [], ◌∷◌, ◌++◌, length, bytes_eq, codes, Option, Some, None, Ok, Err, refl, sym, ap, subst, ⊎_elim, true≢false, arith}
+use Rattle.std.proofs.Common.{◌≡◌, ◌∙◌, ◌≤◌, ◌<◌, ℕ, suc, Bool, true, false, cond, ◌&&◌, nat_le, List, [], ◌∷◌, ◌++◌, length, bytes_eq, codes, Option, Some, None, Ok, Err, refl, sym, ap, subst, ⊎_elim, true≢false, arith}
 use Rattle.std.specs.Option.{option_map}
-use Rattle.std.specs.List.{list_all}
-use Rattle.std.proofs.lemmas.Bool.{and_parts, and_from}
+use Rattle.std.proofs.lemmas.Bool.{and_from}
 use Rattle.std.specs.Prelude.{sum_by}
 use Rattle.std.proofs.lemmas.Bool.Decides.{nat_tests}
-use Rattle.std.proofs.Math.Bool.{and-true}
 use Rattle.ir_core.specs.declared.errors.TermError.{TermError}
 use Rattle.ir_core.specs.declared.errors.TermError.TheVariants as error
 use Rattle.ir_core.specs.declared.handles.Part.{Part}
@@ -13,14 +11,14 @@ use Rattle.ir_laws.specs.Answer.{Answer, State, Succeeds, Writes, Meets, Allows,
 use Rattle.ir_laws.specs.Cause as cause
 use Rattle.ir_laws.specs.Cause.{is_cause_among}
 use Rattle.ir_laws.specs.Causes.{earliest, tree_stages, tree_stages_if, are_listed, limit_causes, unlisted_causes, size_causes}
-use Rattle.ir_laws.specs.Counts.{height, size}
+use Rattle.ir_laws.specs.Counts.{size}
 use Rattle.ir_laws.specs.Environment.{form_trees, with_own}
 use Rattle.ir_laws.specs.Elaboration.{all_fit}
 use Rattle.ir_laws.specs.Expression as expression
 use Rattle.ir_laws.specs.Expression.{expr_list, lines_of}
 use Rattle.ir_script.specs.declared.expression.Expr as code_expr
 use Rattle.ir_script.specs.Views.{exprs_in}
-use Rattle.ir_laws.specs.Form.{Form, Let, Print, Same, FormRow, name_in, let_form, one_term, two_terms, form_of, form_of_exprs}
+use Rattle.ir_laws.specs.Form.{Form, Let, Print, Same, Flags, FormRow, name_in, let_form, one_term, two_terms, form_of, form_of_exprs}
 use Rattle.ir_laws.specs.Formed.{is_formed}
 use Rattle.ir_laws.specs.Heap.{Heap}
 use Rattle.ir_laws.specs.Held.{HoldsJust}
@@ -40,8 +38,6 @@ use Rattle.ir_table.specs.Start.{IsStartRefusal}
 use Rattle.ir_script.specs.Scope.{Named}
 use Rattle.ir_script.specs.Causes.{Says, IsAmong, cause_seen, cause_of}
 use Rattle.ir_script.specs.Answered.{left_by, causes_met, written, left_after, AnswersForm, parts_left, AllowsCause, AllowsFault}
-use Rattle.ir_script.specs.Plain.{is_plain}
-use Rattle.ir_script.proofs.PlainLemmas.{plain_fits, plain_listed}
 
 -- ---- the earliest stage
 
@@ -93,6 +89,10 @@ unfolding tests
 count_test true listed small = refl
 count_test false listed small = refl
 
+unlisted_test : (small : Bool) → is_cause_among (tests true false true small) cause.Unlisted ≡ true
+unfolding tests
+unlisted_test small = refl
+
 large_test : is_cause_among (tests true true true false) cause.TooLarge ≡ true
 unfolding tests
 large_test = refl
@@ -101,42 +101,11 @@ clear_test : tests true true true true ≡ []
 unfolding tests
 clear_test = refl
 
--- the greatest height of the trees
-abbrev pub tallest : List Term → ℕ
-tallest [] = 0
-tallest (t ∷ ts) = max (height t) (tallest ts)
-
-both_low : (a b n : ℕ) → (nat_le a n && nat_le b n) ≡ nat_le (max a b) n
-both_low a b n = by (nat_le a n) (nat_le b n) (nat_le (max a b) n) refl refl refl
-  where
-    by : (x y z : Bool) → nat_le a n ≡ x → nat_le b n ≡ y → nat_le (max a b) n ≡ z → (x && y) ≡ z
-    by true true true e f g = refl
-    by true true false e f g = absurd (grind (arith, nat_tests))
-    by true false true e f g = absurd (grind (arith, nat_tests))
-    by true false false e f g = refl
-    by false y true e f g = absurd (grind (arith, nat_tests))
-    by false y false e f g = refl
-
-module _ (limits : Limits) where
-  within_is : (t : Term) → is_plain t ≡ true → is_within limits t ≡ nat_le (height t) limits.height
-  within_is t plain = ap (λ b. nat_le (height t) limits.height && b) (plain_fits limits t plain) ∙ and-true (nat_le (height t) limits.height)
-
-  all_within : (ts : List Term) → list_all is_plain ts ≡ true → all_fit (is_within limits) ts ≡ nat_le (tallest ts) limits.height
-  all_within [] plain = sym (let low : nat_le 0 limits.height ≡ true = grind (arith, nat_tests) in low)
-  all_within (t ∷ ts) plain =
-      let both = and_parts (is_plain t) (list_all is_plain ts) plain in
-      (λ i. within_is t both.0 i && all_within ts both.1 i) ∙ both_low (height t) (tallest ts) limits.height
-
-all_listed : (ts : List Term) → list_all is_plain ts ≡ true → all_fit (are_listed []) ts ≡ true
-all_listed [] plain = refl
-all_listed (t ∷ ts) plain = let both = and_parts (is_plain t) (list_all is_plain ts) plain in and_from (are_listed [] t) (all_fit (are_listed []) ts) (plain_listed [] t both.0) (all_listed ts both.1)
-
--- The form meets no cause of names and sorts, and has this form with trees. Its operands are plain, are all that it makes, and it spells those others
+-- The form meets no cause of names and sorts, and has this form with trees. Its operands are all that it makes, and it spells those others
 pub record HasTrees (limits : Limits) (form : Form Phrase) (s : State) (tree : Form Term) (ts us : List Term) : Type 0 where
   pub known : name_causes s.environment form ≡ []
   pub fits : sort_causes s.environment (with_own s.environment form) form ≡ []
   pub trees : form_trees (with_own s.environment form) form ≡ Some tree
-  pub plain : list_all is_plain ts ≡ true
   pub made : operands tree ++ made_trees limits s.environment tree ≡ ts
   pub staged : tree_stages limits s.environment s.parts tree ≡ limit_causes limits s.parts ts ∷ (unlisted_causes ts ++ []) ∷ limit_causes limits s.parts ts ∷ size_causes limits us ∷ []
 
@@ -161,40 +130,45 @@ module _ (limits : Limits) (form : Form Phrase) (s : State) (tree : Form Term) (
   unfolding stages own_names own_sorts own_trees tests few_parts is_small
   by_tests = met limits form s ∙ (λ i. stages limits form s (has.known i) (has.fits i) (has.trees i)) ∙ ap earliest has.staged
 
-  -- a tree that is too high
-  pub deep_met : limits.height < tallest ts → Says code.TooDeep (causes_met limits (Some form) s)
-  deep_met h =
-      let high : nat_le (tallest ts) limits.height ≡ false = grind (arith, nat_tests) in
-      subst (λ cs. is_cause_among cs cause.TooDeep ≡ true) (sym (by_tests ∙ ap (λ b. tests b (all_fit (are_listed []) ts) few_parts is_small) (all_within limits ts has.plain ∙ high))) (deep_test (all_fit (are_listed []) ts) few_parts is_small)
+  -- a tree that passes a limit
+  pub deep_met : all_fit (is_within limits) ts ≡ false → Says code.TooDeep (causes_met limits (Some form) s)
+  deep_met h = subst (λ cs. is_cause_among cs cause.TooDeep ≡ true) (sym (by_tests ∙ ap (λ b. tests b (all_fit (are_listed []) ts) few_parts is_small) h)) (deep_test (all_fit (are_listed []) ts) few_parts is_small)
 
-  -- too many parts, whatever the heights
+  -- too many parts, whether or not a tree passes a limit
   pub many_met : limits.nodes < length (with_parts_of s.parts ts) → Says code.TooMany (causes_met limits (Some form) s)
   unfolding few_parts
   many_met h =
       let many : few_parts ≡ false = grind (arith, nat_tests) in
       subst (λ cs. is_cause_among cs cause.TooMany ≡ true) (sym (by_tests ∙ ap (λ b. tests (all_fit (is_within limits) ts) (all_fit (are_listed []) ts) b is_small) many)) (count_test (all_fit (is_within limits) ts) (all_fit (are_listed []) ts) is_small)
 
-  module _ (low : tallest ts ≤ limits.height) (few : length (with_parts_of s.parts ts) ≤ limits.nodes) where
-    low_tests : (small : Bool) → is_small ≡ small → causes_met limits (Some form) s ≡ tests true true true small
+  module _ (low : all_fit (is_within limits) ts ≡ true) (few : length (with_parts_of s.parts ts) ≤ limits.nodes) where
+    enough_parts : (listed : Bool) → all_fit (are_listed []) ts ≡ listed → causes_met limits (Some form) s ≡ tests true listed true is_small
     unfolding few_parts
-    low_tests small h =
-        let high : nat_le (tallest ts) limits.height ≡ true = grind (arith, nat_tests) in
+    enough_parts listed h =
         let enough : few_parts ≡ true = grind (arith, nat_tests) in
-        by_tests ∙ (λ i. tests ((all_within limits ts has.plain ∙ high) i) (all_listed ts has.plain i) (enough i) (h i))
+        by_tests ∙ (λ i. tests (low i) (h i) (enough i) is_small)
 
-    -- trees that are too large
-    pub large_met : limits.size < sum_by size us → Says code.TooLarge (causes_met limits (Some form) s)
-    unfolding is_small
-    large_met h =
-        let large : is_small ≡ false = grind (arith, nat_tests) in
-        subst (λ cs. is_cause_among cs cause.TooLarge ≡ true) (sym (low_tests false large)) large_test
+    -- a variable that its binder doesn't list
+    pub unlisted_met : all_fit (are_listed []) ts ≡ false → Says code.Unlisted (causes_met limits (Some form) s)
+    unlisted_met unlisted = subst (λ cs. is_cause_among cs cause.Unlisted ≡ true) (sym (enough_parts false unlisted)) (unlisted_test is_small)
 
-    -- trees that meet no cause
-    pub clear_met : sum_by size us ≤ limits.size → causes_met limits (Some form) s ≡ []
-    unfolding is_small
-    clear_met h =
-        let small : is_small ≡ true = grind (arith, nat_tests) in
-        low_tests true small ∙ clear_test
+    module _ (listed : all_fit (are_listed []) ts ≡ true) where
+      low_tests : (small : Bool) → is_small ≡ small → causes_met limits (Some form) s ≡ tests true true true small
+      low_tests small h = enough_parts true listed ∙ ap (tests true true true) h
+
+      -- trees that are too large
+      pub large_met : limits.size < sum_by size us → Says code.TooLarge (causes_met limits (Some form) s)
+      unfolding is_small
+      large_met h =
+          let large : is_small ≡ false = grind (arith, nat_tests) in
+          subst (λ cs. is_cause_among cs cause.TooLarge ≡ true) (sym (low_tests false large)) large_test
+
+      -- trees that meet no cause
+      pub clear_met : sum_by size us ≤ limits.size → causes_met limits (Some form) s ≡ []
+      unfolding is_small
+      clear_met h =
+          let small : is_small ≡ true = grind (arith, nat_tests) in
+          low_tests true small ∙ clear_test
 
 -- ---- forms
 
@@ -203,6 +177,7 @@ abbrev pub AreFormed : Form Phrase → Type 0
 AreFormed (Let name p) = is_formed p ≡ true
 AreFormed (Print p) = is_formed p ≡ true
 AreFormed (Same p q) = (is_formed p && is_formed q) ≡ true
+AreFormed (Flags p) = is_formed p ≡ true
 AreFormed form = Unit {0}
 
 abbrev MaybeFormed : Option (Form Phrase) → Type 0
@@ -220,14 +195,14 @@ let_formed (n ∷ e ∷ []) = by (name_in n) (phrase_of e) refl
     by (Some text) (Some p) f = phrases_formed e p f
 let_formed (n ∷ e ∷ f ∷ es) = tt
 
-printed_formed : (es : List expression.Expr) → MaybeFormed (one_term Print es)
-printed_formed [] = tt
-printed_formed (e ∷ []) = by (phrase_of e) refl
+one_formed : (make : Phrase → Form Phrase) → ((p : Phrase) → is_formed p ≡ true → AreFormed (make p)) → (es : List expression.Expr) → MaybeFormed (one_term make es)
+one_formed make formed [] = tt
+one_formed make formed (e ∷ []) = by (phrase_of e) refl
   where
-    by : (o : Option Phrase) → phrase_of e ≡ o → MaybeFormed (option_map Print o)
+    by : (o : Option Phrase) → phrase_of e ≡ o → MaybeFormed (option_map make o)
     by None f = tt
-    by (Some p) f = phrases_formed e p f
-printed_formed (e ∷ f ∷ es) = tt
+    by (Some p) f = formed p (phrases_formed e p f)
+one_formed make formed (e ∷ f ∷ es) = tt
 
 same_formed : (es : List expression.Expr) → MaybeFormed (two_terms Same es)
 same_formed [] = tt
@@ -243,13 +218,14 @@ same_formed (d ∷ e ∷ f ∷ es) = tt
 maybe_formed : (es : List expression.Expr) → MaybeFormed (form_of_exprs es)
 maybe_formed [] = tt
 maybe_formed (expression.Group items ∷ es) = tt
-maybe_formed (expression.Single text ∷ es) = by (bytes_eq (codes "let") text) (bytes_eq (codes "print") text) (bytes_eq (codes "same") text)
+maybe_formed (expression.Single text ∷ es) = by (bytes_eq (codes "let") text) (bytes_eq (codes "print") text) (bytes_eq (codes "same") text) (bytes_eq (codes "flags") text)
   where
-    by : (a b c : Bool) → MaybeFormed (and_then (cond a (Some (record { text = codes "let"; read = let_form })) (cond b (Some (record { text = codes "print"; read = one_term Print })) (cond c (Some (record { text = codes "same"; read = two_terms Same })) None))) (λ (row : FormRow). row.read es))
-    by true b c = let_formed es
-    by false true c = printed_formed es
-    by false false true = same_formed es
-    by false false false = tt
+    by : (a b c d : Bool) → MaybeFormed (and_then (cond a (Some (record { text = codes "let"; read = let_form })) (cond b (Some (record { text = codes "print"; read = one_term Print })) (cond c (Some (record { text = codes "same"; read = two_terms Same })) (cond d (Some (record { text = codes "flags"; read = one_term Flags })) None)))) (λ (row : FormRow). row.read es))
+    by true b c d = let_formed es
+    by false true c d = one_formed Print (λ p h. h) es
+    by false false true d = same_formed es
+    by false false false true = one_formed Flags (λ p h. h) es
+    by false false false false = tt
 
 pub form_formed : (es : List expression.Expr) (form : Form Phrase) → form_of_exprs es ≡ Some form → AreFormed form
 form_formed es form e = subst MaybeFormed e (maybe_formed es)

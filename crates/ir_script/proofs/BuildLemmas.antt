@@ -1,59 +1,70 @@
 -- What the making of a phrase's part says.
-use Rattle.std.proofs.Common.{◌≡◌, ℕ, zero, suc, ◌+◌, ◌<◌, ◌≤◌, Bool, true, false, ◌&&◌, ◌||◌, List, [], ◌∷◌, ◌++◌, length, get_or, take, drop, map, flat_map, Option, Some, None, IsSome, is_some, option_map, Result, Ok, Err, inl, inr, Vec, Global, refl, sym, ap, subst, ◌∙◌, arith}
+use Rattle.std.proofs.Common.{◌≡◌, ℕ, zero, suc, ◌+◌, ◌<◌, ◌≤◌, Bool, true, false, not, ◌&&◌, ◌||◌, List, [], ◌∷◌, ◌++◌, length, get_or, take, drop, map, flat_map, Option, Some, None, IsSome, is_some, option_map, Result, Ok, Err, inl, inr, Vec, Global, refl, sym, ap, subst, ◌∙◌, arith}
 use Rattle.std.specs.List.{list_all}
 use Rattle.std.proofs.lemmas.Bool.{false≢true, and_parts, and_from, or_cases, or_left, or_right}
-use Rattle.std.proofs.lemmas.List.{take_more, take_all, append-nil, take-append-drop}
+use Rattle.std.proofs.lemmas.List.{map_push, take_more, take_all, append-nil, take-append-drop}
 use Rattle.std.proofs.lemmas.Grind.{flat_map-append}
 use Rattle.std.proofs.lemmas.Option.{same_Some}
 use Rattle.ir_core.specs.declared.ids.SolverDefId.{SolverDefId}
 use Rattle.ir_core.specs.declared.errors.TermError.{TermError}
+use Rattle.ir_core.specs.declared.errors.TermError.TheVariants as error
+use Rattle.ir_core.specs.declared.handles.BoundVarKinds.{BoundVarKinds}
 use Rattle.ir_core.specs.declared.handles.Part.{Part}
+use Rattle.ir_core.specs.declared.handles.Part.TheVariants as part
+use Rattle.ir_core.specs.declared.variables.BoundVarKind.{BoundVarKind}
 use Rattle.ir_core.specs.declared.handles.Ty.{Ty}
 use Rattle.ir_laws.specs.declared.words.Word.{Word}
-use Rattle.ir_laws.specs.declared.words.Word.TheVariants.{TypeList}
+use Rattle.ir_laws.specs.declared.words.Word.TheVariants.{TypeList, BoundVariable, VariableList}
 use Rattle.ir_laws.specs.declared.labels.Sort.{Sort}
-use Rattle.ir_laws.specs.declared.labels.Sort.TheVariants.{OfType, OfConstant}
+use Rattle.ir_laws.specs.declared.labels.Sort.TheVariants.{OfType, OfRegion, OfConstant, OfExistential}
+use Rattle.ir_laws.specs.declared.labels.Part.{Part as RowPart}
 use Rattle.ir_laws.specs.declared.labels.FieldForm.{FieldForm}
-use Rattle.ir_laws.specs.declared.labels.FieldForm.TheVariants.{OneWordOf, ItemOf, AliasOfTrait, IdOf, ANumber, AVariableKind, ARegionKind, AMemory}
+use Rattle.ir_laws.specs.declared.labels.FieldForm.TheVariants.{OneWordOf}
 use Rattle.ir_laws.specs.declared.labels.KidForm.{KidForm}
 use Rattle.ir_laws.specs.declared.labels.KidForm.TheVariants.{OneOf, TypeOrConstant, ListOf, ArgumentsOf}
 use Rattle.ir_laws.specs.Tree as tree
-use Rattle.ir_laws.specs.Tree.{Text, Label, Kind, End, And, Term, Terms}
+use Rattle.ir_laws.specs.Tree.{Text, Label, Kind, Node, End, And, Term, Terms}
 use Rattle.ir_laws.specs.Word.{same_word, label_words}
 use Rattle.ir_laws.specs.Same.{same_sort}
 use Rattle.ir_laws.specs.Label.{Always, ByKind, row}
 use Rattle.ir_laws.specs.Names.{field_forms}
 use Rattle.ir_laws.specs.Sorts.{is_word_among}
-use Rattle.ir_laws.specs.Formed.{kid_forms, field_fits, fields_fit, has_no_fields}
+use Rattle.ir_laws.specs.Formed.{kid_forms, field_fits, fields_fit, bind_fits, has_no_fields}
 use Rattle.ir_laws.specs.Counts.{sort_of, sort_of_fields, sort_of_label}
-use Rattle.ir_laws.specs.Phrase.{Phrase, Phrases, Labelled, NoPhrase, ThenPhrase, and_then, each_of, phrase_list}
+use Rattle.ir_laws.specs.Phrase.{Phrase, Phrases, Labelled, NoPhrase, ThenPhrase, cons_if, each_of, phrase_list}
 use Rattle.ir_laws.specs.Environment as environment
-use Rattle.ir_laws.specs.Environment.{field_in, tree_made, trees_of, cons_term}
-use Rattle.ir_laws.specs.Heap.{Shape, Heap, Each, forest, plant, IsLive, IsSound, Grows, tree_of}
+use Rattle.ir_laws.specs.Environment.{bind_in, kind_in, field_in, tree_made, trees_of, cons_term}
+use Rattle.ir_laws.specs.Heap.{Layer, Heap, Each, forest, kinds_among, kinds_at, names_in, plant, with_binder, IsLive, IsSound, Grows, tree_of, tree_above}
 use Rattle.ir_laws.specs.Held.{Counts}
-use Rattle.ir_laws.specs.Parts.{parts, all_parts, is_part}
+use Rattle.ir_laws.specs.Parts.{has_for_group, is_counted, variable_list, variable_lists, parts, all_parts, is_part}
 use Rattle.ir_laws.proofs.SameParts.{word_decides, sort_decides}
-use Rattle.ir_laws.proofs.PartSets.{part_left}
+use Rattle.ir_laws.proofs.HeldLemmas.{parts_stand}
+use Rattle.ir_laws.proofs.HeapLemmas.{Each-map, forest-same, binder_tree}
+use Rattle.ir_laws.proofs.PartSets.{no_part, part_left}
+use Rattle.ir_laws.proofs.PlantLemmas.{label_in, sort-plant}
 use Rattle.ir_table.specs.Fits.{part_sort, is_list_of, kids_fit, FitsRow}
-use Rattle.ir_table.specs.Kinds.{Fields, shape, tys_shape}
+use Rattle.ir_table.specs.Kinds.{Fields, heap_of, layer_of, tys_kids, tys_layer, variable_field, variable_seen, variables_layer}
+use Rattle.ir_table.specs.declared.store.Tables.{Tables}
+use Rattle.ir_table.proofs.PartLemmas.{variables_bind}
 use Rattle.ir_table.specs.State.{State, NewAnswers, Makes}
 use Rattle.ir_table.proofs.MakesLemmas.{makes_none, makes_new, makes_then, makes_err, makes_same, makes_ok}
 use Rattle.ir_script.specs.declared.phrases.Phrase as code
 use Rattle.ir_script.specs.declared.phrases.Field.{Field}
-use Rattle.ir_script.specs.declared.phrases.Field.TheVariants.{Chosen}
-use Rattle.ir_script.specs.Built.{Suits, AllSuit, Builds, BuildsAll}
+use Rattle.ir_script.specs.declared.phrases.Field.TheVariants.{Chosen, Number, OfKind}
+use Rattle.ir_script.specs.declared.phrases.VariableKind.{VariableKind}
+use Rattle.ir_script.specs.declared.phrases.VariableKind.TheVariants as variable
+use Rattle.ir_script.specs.Built.{Suits, AllSuit, Binds, Builds, BuildsAll}
 use Rattle.ir_script.specs.Causes.{no_names}
-use Rattle.ir_script.specs.Makeable.{sort_named, phrase_sort, is_makeable, kids_makeable, is_list_makeable, all_makeable, is_buildable}
-use Rattle.ir_script.specs.Phrases.{field_seen, phrase_seen, phrases_seen}
-use Rattle.ir_script.specs.Plain.{is_plain_word}
+use Rattle.ir_script.specs.Makeable.{is_nameless, is_nameless_field, is_nameless_bind, label_makeable, list_label, sort_named, phrase_sort, is_makeable, kids_makeable, is_list_makeable, all_makeable, is_buildable}
+use Rattle.ir_script.specs.Phrases.{kind_seen, field_seen, label_seen, bind_seen, phrase_seen, phrases_seen}
 use Rattle.ir_laws.specs.Environment.{Environment}
 use Rattle.ir_script.specs.Scope.{Named, part_named, env_of, AreTerms}
 use Rattle.ir_script.proofs.ScopeLemmas.{term_is, named_is_term, env_later}
-use Rattle.ir_script.proofs.StandLemmas.{parts_stand, makes_standing}
-use Rattle.ir_script.proofs.KidLemmas.{labelled, seen_labelled}
-use Rattle.ir_script.proofs.MakeableLemmas.{among_passes}
-use Rattle.ir_script.proofs.MadeLemmas.{is_counted_word, words_are_counted, below_is_part, last_is_part, part_is_last}
-use Rattle.ir_script.proofs.PlainLemmas.{words_are_plain, plain_made, all_built_planted}
+use Rattle.ir_script.proofs.StandLemmas.{makes_standing}
+use Rattle.ir_script.proofs.KidLemmas.{seen_labelled}
+use Rattle.ir_script.proofs.MakeableLemmas.{among_passes, label_is, list_is}
+use Rattle.ir_script.proofs.MadeLemmas.{is_counted_word, words_are_counted, label_counted, below_is_part, last_is_part, part_is_last, makes_memory}
+use Rattle.ir_script.proofs.TreeLemmas.{is_node_word, is_known, words_are_known, no_group, nothing_named, variable_row, node_made, variable_made, label_tree, no_kids, all_built_planted}
 
 -- ---- words that are built
 
@@ -76,27 +87,81 @@ same_word_is v w = (word_decides v w).0
 same_sort_is : (s t : Sort) → same_sort s t ≡ true → s ≡ t
 same_sort_is s t = (sort_decides s t).0
 
--- a field where names are looked up
+-- a kind and a field where names are looked up, of which there are none
+abbrev pub kind_kept : VariableKind → Kind SolverDefId
+kind_kept (variable.Type name) = record { sort = OfType; name = tree.Nameless }
+kind_kept (variable.Region name) = record { sort = OfRegion; name = tree.Nameless }
+kind_kept variable.Environment = record { sort = OfRegion; name = tree.Environment }
+kind_kept variable.Constant = record { sort = OfConstant; name = tree.Nameless }
+
 abbrev pub kept : Field → tree.Field SolverDefId
 kept (Chosen word) = tree.Chosen word
+kept (Number n) = tree.Number n
+kept (OfKind k) = tree.OfKind (kind_kept k)
 
-pub each_kept : (env : Environment) (fields : List Field) → each_of (field_in env) (map field_seen fields) ≡ Some (map kept fields)
-each_kept env [] = refl
-each_kept env (Chosen word ∷ fields) = rw (each_kept env fields)
+kind_is_kept : (env : Environment) (k : VariableKind) → is_nameless (kind_seen k) ≡ true → kind_in env (kind_seen k) ≡ Some (kind_kept k)
+kind_is_kept env (variable.Type None) h = refl
+kind_is_kept env (variable.Type (Some name)) h = absurd (false≢true h)
+kind_is_kept env (variable.Region None) h = refl
+kind_is_kept env (variable.Region (Some name)) h = absurd (false≢true h)
+kind_is_kept env variable.Environment h = refl
+kind_is_kept env variable.Constant h = refl
+
+field_is_kept : (env : Environment) (field : Field) → is_nameless_field (field_seen field) ≡ true → field_in env (field_seen field) ≡ Some (kept field)
+field_is_kept env (Chosen word) h = refl
+field_is_kept env (Number n) h = refl
+field_is_kept env (OfKind k) h = ap (option_map tree.OfKind) (kind_is_kept env k h)
+
+pub each_kept : (env : Environment) (fields : List Field) → list_all is_nameless_field (map field_seen fields) ≡ true → each_of (field_in env) (map field_seen fields) ≡ Some (map kept fields)
+each_kept env [] h = refl
+each_kept env (field ∷ fields) h =
+    let both = and_parts (is_nameless_field (field_seen field)) (list_all is_nameless_field (map field_seen fields)) h in
+    (λ i. cons_if (field_is_kept env field both.0 i) (each_kept env fields both.1 i))
+
+abbrev pub binds_kept : Option (Vec VariableKind Global) → Option (List (Kind SolverDefId))
+binds_kept = option_map (λ kinds. map kind_kept kinds.items)
+
+pub kinds_are_kept : (env : Environment) (kinds : List VariableKind) → list_all is_nameless (map kind_seen kinds) ≡ true → each_of (kind_in env) (map kind_seen kinds) ≡ Some (map kind_kept kinds)
+kinds_are_kept env [] h = refl
+kinds_are_kept env (k ∷ kinds) h =
+    let both = and_parts (is_nameless (kind_seen k)) (list_all is_nameless (map kind_seen kinds)) h in
+    (λ i. cons_if (kind_is_kept env k both.0 i) (kinds_are_kept env kinds both.1 i))
+
+bind_is_kept : (env : Environment) (bind : Option (Vec VariableKind Global)) → is_nameless_bind (bind_seen bind) ≡ true → bind_in env (bind_seen bind) ≡ Some (binds_kept bind)
+bind_is_kept env None h = refl
+bind_is_kept env (Some kinds) h = ap (option_map Some) (kinds_are_kept env kinds.items h)
+
+-- without a group nothing is kept
+none_kept : (bind : Option (Vec VariableKind Global)) → bind_seen bind ≡ None → binds_kept bind ≡ None
+none_kept None h = refl
+none_kept (Some kinds) h = absurd cc
+
+bind_alike : (row : List RowPart) (bind : Option (Vec VariableKind Global)) → bind_fits row (bind_seen bind) ≡ true → bind_fits row (binds_kept bind) ≡ true
+bind_alike row None h = h
+bind_alike row (Some kinds) h = h
+
+-- a handle is there just where the row has a group
+group_is : (h : Heap Part) (row : List RowPart) (bind : Option (Vec VariableKind Global)) (v : Option BoundVarKinds) → bind_fits row (bind_seen bind) ≡ true → option_map (kinds_at h) (option_map part.BoundVarKinds v) ≡ binds_kept bind → has_for_group row ≡ is_some v
+group_is h row None None fits e = not_true (has_for_group row) fits
+  where
+    not_true : (b : Bool) → not b ≡ true → b ≡ false
+    not_true false n = refl
+    not_true true n = absurd (false≢true n)
+group_is h row None (Some v) fits e = absurd cc
+group_is h row (Some kinds) None fits e = absurd cc
+group_is h row (Some kinds) (Some v) fits e = fits
 
 -- the fields are those that are kept
-are_kept : (fields : List Field) (fs : Fields) → each_of (field_in no_names) (map field_seen fields) ≡ Some fs → fs ≡ map kept fields
-are_kept fields fs e = same_Some fs (map kept fields) (sym e ∙ each_kept no_names fields)
+are_kept : (fields : List Field) (fs : Fields) → list_all is_nameless_field (map field_seen fields) ≡ true → each_of (field_in no_names) (map field_seen fields) ≡ Some fs → fs ≡ map kept fields
+are_kept fields fs h e = same_Some fs (map kept fields) (sym e ∙ each_kept no_names fields h)
 
 field_alike : (form : FieldForm) (field : Field) → field_fits form (field_seen field) ≡ field_fits form (kept field)
 field_alike (OneWordOf choice) (Chosen word) = refl
-field_alike (ItemOf place) (Chosen word) = refl
-field_alike AliasOfTrait (Chosen word) = refl
-field_alike (IdOf place) (Chosen word) = refl
-field_alike ANumber (Chosen word) = refl
-field_alike AVariableKind (Chosen word) = refl
-field_alike ARegionKind (Chosen word) = refl
-field_alike AMemory (Chosen word) = refl
+field_alike (OneWordOf choice) (Number n) = refl
+field_alike (OneWordOf choice) (OfKind k) = refl
+field_alike form (Chosen word) = refl
+field_alike form (Number n) = refl
+field_alike form (OfKind k) = refl
 
 fields_alike : (forms : List FieldForm) (fields : List Field) → fields_fit forms (map field_seen fields) ≡ fields_fit forms (map kept fields)
 fields_alike [] [] = refl
@@ -107,8 +172,27 @@ fields_alike (form ∷ forms) (field ∷ fields) = (λ i. field_alike form field
 sort_of_seen : (fields : List Field) → sort_of_fields (map field_seen fields) ≡ sort_of_fields (map kept fields)
 sort_of_seen [] = refl
 sort_of_seen (Chosen word ∷ fields) = sort_of_seen fields
+sort_of_seen (Number n ∷ fields) = sort_of_seen fields
+sort_of_seen (OfKind (variable.Type name) ∷ fields) = refl
+sort_of_seen (OfKind (variable.Region name) ∷ fields) = refl
+sort_of_seen (OfKind variable.Environment ∷ fields) = refl
+sort_of_seen (OfKind variable.Constant ∷ fields) = refl
 
-sort_alike : (word : Word) (fields : List Field) → sort_of_label (shape word (map kept fields)).label ≡ sort_of_label (labelled word fields)
+-- no kind that is kept is an existential predicate's
+kept_kind : (fields : List Field) → not (same_sort (sort_of_fields (map kept fields)) OfExistential) ≡ true
+kept_kind [] = refl
+kept_kind (Chosen word ∷ fields) = kept_kind fields
+kept_kind (Number n ∷ fields) = kept_kind fields
+kept_kind (OfKind (variable.Type name) ∷ fields) = refl
+kept_kind (OfKind (variable.Region name) ∷ fields) = refl
+kept_kind (OfKind variable.Environment ∷ fields) = refl
+kept_kind (OfKind variable.Constant ∷ fields) = refl
+
+-- the label of the word with these fields
+abbrev kept_label : Word → List Field → Label SolverDefId
+kept_label word fields = record { word = word; fields = map kept fields }
+
+sort_alike : (word : Word) (fields : List Field) → sort_of_label (kept_label word fields) ≡ sort_of_label (label_seen word fields)
 sort_alike word fields = ap (λ s. elim ((row word).sort) [ Always t ↦ t | ByKind ↦ s ]) (sym (sort_of_seen fields))
 
 row_lists : (w : Word) → is_word_among label_words w ≡ true → lists_are_types (kid_forms (row w).parts) ≡ true
@@ -201,23 +285,38 @@ module _ (ns : List Named) where
   label_passes : (test : Word → Bool) → list_all test label_words ≡ true → test TypeList ≡ true → (l : Label Text) (b : Option (List (Kind Text))) (ps : Phrases) → is_buildable ns (Labelled l b ps) ≡ true → test l.word ≡ true
   label_passes test words list l b ps h =
       elim (or_cases (is_makeable ns (Labelled l b ps)) (is_list_makeable ns TypeList OfType (Labelled l b ps)) h) [
-        | inl term ↦ among_passes test label_words l.word words (and_parts (is_word_among label_words l.word) _ (and_parts _ (kids_makeable ns (kid_forms (row l.word).parts) ps) term).0).0
-        | inr types ↦ ap test (same_word_is l.word TypeList (and_parts (same_word l.word TypeList) _ (and_parts _ (all_makeable ns OfType ps) types).0).0) ∙ list
+        | inl term ↦ among_passes test label_words l.word words (label_is l b (and_parts (label_makeable l b) (kids_makeable ns (kid_forms (row l.word).parts) ps) term).0).word
+        | inr types ↦ ap test (same_word_is l.word TypeList (list_is TypeList l b (and_parts (list_label TypeList l b) (all_makeable ns OfType ps) types).0).word) ∙ list
       ]
 
   label_kids : (l : Label Text) (b : Option (List (Kind Text))) (ps : Phrases) → is_buildable ns (Labelled l b ps) ≡ true → list_all (is_buildable ns) (phrase_list ps) ≡ true
   label_kids l b ps h =
       elim (or_cases (is_makeable ns (Labelled l b ps)) (is_list_makeable ns TypeList OfType (Labelled l b ps)) h) [
-        | inl term ↦ let a = and_parts (is_word_among label_words l.word && fields_fit (field_forms (row l.word).parts) l.fields) (kids_makeable ns (kid_forms (row l.word).parts) ps) term in kids_buildable (kid_forms (row l.word).parts) ps (row_lists l.word (and_parts (is_word_among label_words l.word) _ a.0).0) a.1
-        | inr list ↦ members_buildable OfType ps (and_parts _ (all_makeable ns OfType ps) list).1
+        | inl term ↦ let a = and_parts (label_makeable l b) (kids_makeable ns (kid_forms (row l.word).parts) ps) term in kids_buildable (kid_forms (row l.word).parts) ps (row_lists l.word (label_is l b a.0).word) a.1
+        | inr list ↦ members_buildable OfType ps (and_parts (list_label TypeList l b) (all_makeable ns OfType ps) list).1
       ]
 
-  -- a list has no fields, and its members are types
-  list_parts : (l : Label Text) (b : Option (List (Kind Text))) (ps : Phrases) → l.word ≡ TypeList → is_buildable ns (Labelled l b ps) ≡ true → (has_no_fields l.fields ≡ true) × (all_makeable ns OfType ps ≡ true)
+  -- no field and nothing that is bound has a name, and something may be bound just where the row has a group
+  label_nameless : (l : Label Text) (b : Option (List (Kind Text))) (ps : Phrases) → is_buildable ns (Labelled l b ps) ≡ true → (list_all is_nameless_field l.fields ≡ true) × (is_nameless_bind b ≡ true) × (bind_fits (row l.word).parts b ≡ true)
+  label_nameless l b ps h =
+      elim (or_cases (is_makeable ns (Labelled l b ps)) (is_list_makeable ns TypeList OfType (Labelled l b ps)) h) [
+        | inl term ↦ let label = label_is l b (and_parts (label_makeable l b) (kids_makeable ns (kid_forms (row l.word).parts) ps) term).0 in (label.nameless, label.bound, label.bind)
+        | inr list ↦
+            let label = list_is TypeList l b (and_parts (list_label TypeList l b) (all_makeable ns OfType ps) list).0 in
+            let none = no_group [] b refl label.bind in
+            let word = same_word_is l.word TypeList label.word in
+            (nothing_named l.fields label.fields, ap is_nameless_bind none, (λ i. bind_fits (row (word i)).parts (none i)))
+      ]
+
+  -- a list has no fields, binds nothing, and its members are types
+  list_parts : (l : Label Text) (b : Option (List (Kind Text))) (ps : Phrases) → l.word ≡ TypeList → is_buildable ns (Labelled l b ps) ≡ true → (has_no_fields l.fields ≡ true) × (b ≡ None) × (all_makeable ns OfType ps ≡ true)
   list_parts l b ps word h =
       elim (or_cases (is_makeable ns (Labelled l b ps)) (is_list_makeable ns TypeList OfType (Labelled l b ps)) h) [
-        | inl term ↦ absurd (false≢true (ap (is_word_among label_words) (sym word) ∙ (and_parts (is_word_among label_words l.word) _ (and_parts _ (kids_makeable ns (kid_forms (row l.word).parts) ps) term).0).0))
-        | inr list ↦ let a = and_parts (same_word l.word TypeList && has_no_fields l.fields) (all_makeable ns OfType ps) list in ((and_parts (same_word l.word TypeList) (has_no_fields l.fields) a.0).1, a.1)
+        | inl term ↦ absurd (false≢true (ap (is_word_among label_words) (sym word) ∙ (label_is l b (and_parts (label_makeable l b) (kids_makeable ns (kid_forms (row l.word).parts) ps) term).0).word))
+        | inr list ↦
+            let a = and_parts (list_label TypeList l b) (all_makeable ns OfType ps) list in
+            let label = list_is TypeList l b a.0 in
+            (label.fields, no_group [] b refl label.bind, a.1)
       ]
 
   -- a label that is no list has its row's fields, and kids that fit the row
@@ -225,24 +324,96 @@ module _ (ns : List Named) where
       → (is_word_among label_words l.word ≡ true) × (fields_fit (field_forms (row l.word).parts) l.fields ≡ true) × (kids_makeable ns (kid_forms (row l.word).parts) ps ≡ true)
   term_parts l b ps other h =
       elim (or_cases (is_makeable ns (Labelled l b ps)) (is_list_makeable ns TypeList OfType (Labelled l b ps)) h) [
-        | inl term ↦ let a = and_parts (is_word_among label_words l.word && fields_fit (field_forms (row l.word).parts) l.fields) (kids_makeable ns (kid_forms (row l.word).parts) ps) term in let b = and_parts (is_word_among label_words l.word) (fields_fit (field_forms (row l.word).parts) l.fields) a.0 in (b.0, b.1, a.1)
-        | inr list ↦ absurd (other (same_word_is l.word TypeList (and_parts (same_word l.word TypeList) _ (and_parts _ (all_makeable ns OfType ps) list).0).0))
+        | inl term ↦ let a = and_parts (label_makeable l b) (kids_makeable ns (kid_forms (row l.word).parts) ps) term in let label = label_is l b a.0 in (label.word, label.fields, a.1)
+        | inr list ↦ absurd (other (same_word_is l.word TypeList (list_is TypeList l b (and_parts (list_label TypeList l b) (all_makeable ns OfType ps) list).0).word))
       ]
 
 no_fields_kept : (fields : List Field) → has_no_fields (map field_seen fields) ≡ true → [] ≡ map kept fields
 no_fields_kept [] h = refl
 no_fields_kept (field ∷ fields) h = absurd (false≢true h)
 
--- ---- the tree of a label that has a node
+-- ---- the tree of a label
 
--- the node of the word over these trees
-abbrev own_tree : Word → List Field → Terms → Term
-own_tree word fields ts = plant (shape word (map kept fields)) ts
+-- what the label of the word stands for over these trees
+abbrev own_tree : Word → List Field → Option (Vec VariableKind Global) → Terms → Term
+own_tree word fields bind ts = plant (record { label = kept_label word fields; bind = binds_kept bind }) ts
 
-seen_tree : (env : Environment) (word : Word) (fields : List Field) (ps : Phrases) (ts : Terms) → is_plain_word word ≡ true → trees_of env ps ≡ Some ts → environment.tree_of env (Labelled (labelled word fields) None ps) ≡ Some (own_tree word fields ts)
-seen_tree env word fields ps ts plain trees =
-    (λ i. and_then (option_map (λ fs. let l : Label SolverDefId = record { word = word; fields = fs } in l) (each_kept env fields i)) (λ l. and_then (trees i) (tree_made l None)))
-    ∙ plain_made (shape word (map kept fields)).label None ts plain
+-- ---- what is bound
+
+fields_of_kinds : (vs : List BoundVarKind) → map tree.OfKind (map variable_seen vs) ≡ map variable_field vs
+fields_of_kinds [] = refl
+fields_of_kinds (v ∷ vs) = ap (λ fs. variable_field v ∷ fs) (fields_of_kinds vs)
+
+kinds_of_kinds : (ks : List (Kind SolverDefId)) → kinds_among (map tree.OfKind ks) ≡ ks
+kinds_of_kinds [] = refl
+kinds_of_kinds (k ∷ ks) = ap (λ rest. k ∷ rest) (kinds_of_kinds ks)
+
+-- the tree of a list of variables
+variables_tree : (h : Heap Part) (vs : List BoundVarKind) → variable_list (map variable_seen vs) ≡ tree_above h (variables_layer vs)
+variables_tree h vs = ap (λ (fs : Fields). Node (record { word = VariableList; fields = fs }) None End) (fields_of_kinds vs)
+
+-- the kinds in a list of variables are those of its tree
+kinds_told : (t : Tables) → IsSound (heap_of t) → (v : BoundVarKinds) (vs : List BoundVarKind) (h : Heap Part) → IsLive (heap_of t) (part.BoundVarKinds v) → tree_of (heap_of t) (part.BoundVarKinds v) ≡ tree_above h (variables_layer vs)
+    → kinds_at (heap_of t) (part.BoundVarKinds v) ≡ map variable_seen vs
+kinds_told t sound v vs h live is =
+    let own = binder_tree (heap_of t) sound (part.BoundVarKinds v) (variables_bind t v live) in
+    let same : variable_list (kinds_at (heap_of t) (part.BoundVarKinds v)) ≡ variable_list (map variable_seen vs) = sym own.1 ∙ is ∙ sym (variables_tree h vs) in
+    sym (kinds_of_kinds (kinds_at (heap_of t) (part.BoundVarKinds v))) ∙ ap (λ (u : Term). kinds_among (label_in u).fields) same ∙ kinds_of_kinds (map variable_seen vs)
+
+-- a label that has no group binds nothing
+pub binds_nothing : (s : State) (b : Option (List (Kind Text))) → b ≡ None → Binds s s b (Ok None)
+binds_nothing s b none = record {
+  made = None;
+  found = ap (bind_in no_names) none;
+  makes = makes_ok s s [] tt None (makes_none s);
+  live = tt;
+  kinds = refl;
+}
+
+module _ (s : State) (ks : List (Kind Text)) (vs : List BoundVarKind) (found : each_of (kind_in no_names) ks ≡ Some (map variable_seen vs)) where
+  found_some : bind_in no_names (Some ks) ≡ Some (Some (map variable_seen vs))
+  found_some = ap (option_map Some) found
+
+  pub binds_refused : (new : State) (e : TermError) → Counts s.heap s.count → NewAnswers part.BoundVarKinds s new (variables_layer vs) (Err e) → Binds s new (Some ks) (Err e)
+  binds_refused new e counts a = record {
+    made = Some (map variable_seen vs);
+    found = found_some;
+    makes = makes_err s new (variable_list (map variable_seen vs) ∷ []) (variable_list (map variable_seen vs) ∷ []) e
+        (makes_new s new (variables_layer vs) (Err e) (variable_list (map variable_seen vs)) counts (variables_tree s.heap vs) a) (λ t h. h);
+    live = tt;
+    kinds = tt;
+  }
+
+  pub binds_made : (t : Tables) (new : State) → new.heap ≡ heap_of t → IsSound (heap_of t) → (v : BoundVarKinds) → Counts s.heap s.count → NewAnswers part.BoundVarKinds s new (variables_layer vs) (Ok v) → Binds s new (Some ks) (Ok (Some v))
+  binds_made t new is sound v counts a =
+      let live = subst (λ h. IsLive h (part.BoundVarKinds v)) is a.ok.live in
+      let tree = ap (λ h. tree_of h (part.BoundVarKinds v)) (sym is) ∙ a.ok.tree in
+      record {
+        made = Some (map variable_seen vs);
+        found = found_some;
+        makes = makes_ok s new (variable_list (map variable_seen vs) ∷ []) v (Some v)
+            (makes_new s new (variables_layer vs) (Ok v) (variable_list (map variable_seen vs)) counts (variables_tree s.heap vs) a);
+        live = (a.ok.live, tt);
+        kinds = ap Some (ap (λ h. kinds_at h (part.BoundVarKinds v)) is ∙ kinds_told t sound v vs s.heap live tree);
+      }
+
+-- what is said of the kinds of a group is said of the group
+pub bind_is : {old new : State} (bind : Option (Vec VariableKind Global)) (kinds : Vec VariableKind Global) (r t : Result (Option BoundVarKinds) TermError) → bind ≡ Some kinds → r ≡ t → Binds old new (Some (map kind_seen kinds.items)) t → Binds old new (bind_seen bind) r
+bind_is {old} {new} bind kinds r t is same binds = subst (λ (b : Option (List (Kind Text))). Binds old new b r) (sym (ap bind_seen is)) (subst (Binds old new (Some (map kind_seen kinds.items))) (sym same) binds)
+
+-- the refusal is want of memory
+pub memory_is : {T : Type 0} {e : TermError} → ◌≡◌ {A = Result T TermError} (Err e) (Err error.Memory) → e ≡ error.Memory
+memory_is is = cc
+
+-- there is no memory for the kinds
+pub binds_no_memory : (s : State) (kinds : List VariableKind) (e : TermError) → list_all is_nameless (map kind_seen kinds) ≡ true → e ≡ error.Memory → Binds s s (Some (map kind_seen kinds)) (Err e)
+binds_no_memory s kinds e nameless is = record {
+  made = Some (map kind_kept kinds);
+  found = ap (option_map Some) (kinds_are_kept no_names kinds nameless);
+  makes = makes_err s s [] (variable_list (map kind_kept kinds) ∷ []) e (makes_memory s s [] tt e is (makes_none s)) (λ t h. absurd (no_part t h));
+  live = tt;
+  kinds = tt;
+}
 
 -- the next phrase, where the phrases before it are built
 pub next_taken : (ps : List code.Phrase) (i : ℕ) (p : code.Phrase) → i < length ps → p ≡ get_or ps i p → take (i + 1) ps ≡ take i ps ++ p ∷ []
@@ -340,7 +511,7 @@ module _ (h : Heap Part) (ns : List Named) (terms : AreTerms h ns) where
   -- a phrase is refused: the trees' parts that are made are among those of all
   pub all_refused : {T : Type 0} (old new : State) (ks : List code.Phrase) (n : ℕ) (e : TermError) → list_all (λ k. is_buildable ns (phrase_seen k)) ks ≡ true → Makes {T = T} old new (flat_map (own_parts over ns) (take n ks)) (Err e) → BuildsAll over ns old new (phrases_seen ks) (Err e)
   all_refused old new ks n e buildable makes =
-      let all = all_built_planted h ns terms ks buildable in
+      let all = all_built_planted h ns ks buildable in
       let whole = sym ((parts_together over ns) ks all.0 all.1) ∙ sym (ap (flat_map (own_parts over ns)) (take-append-drop n ks)) ∙ flat_map-append (own_parts over ns) (take n ks) (drop n ks) in
       record {
         made = all.0;
@@ -366,114 +537,209 @@ module _ (h : Heap Part) (ns : List Named) (terms : AreTerms h ns) where
         suit = (built_suit over ns) now.heap ks qs.items built;
       }
 
-module _ (ns : List Named) where
-  pub buildable_at : (ps : List code.Phrase) (i : ℕ) (p : code.Phrase) → i < length ps → p ≡ get_or ps i p → list_all (λ k. is_buildable ns (phrase_seen k)) ps ≡ true → is_buildable ns (phrase_seen p) ≡ true
-  buildable_at ps i p h is all = ap (λ k. is_buildable ns (phrase_seen k)) is ∙ at ps i p h all
-    where
-      at : (ks : List code.Phrase) (j : ℕ) (d : code.Phrase) → j < length ks → list_all (λ k. is_buildable ns (phrase_seen k)) ks ≡ true → is_buildable ns (phrase_seen (get_or ks j d)) ≡ true
-      at [] j d below all = absurd (omega arith)
-      at (k ∷ ks) zero d below all = (and_parts (is_buildable ns (phrase_seen k)) (list_all (λ o. is_buildable ns (phrase_seen o)) ks) all).0
-      at (k ∷ ks) (suc j) d below all = at ks j d (omega arith) (and_parts (is_buildable ns (phrase_seen k)) (list_all (λ o. is_buildable ns (phrase_seen o)) ks) all).1
+-- what all pass, each passes
+all_at : {A : Type 0} (test : A → Bool) (xs : List A) (i : ℕ) (x : A) → i < length xs → x ≡ get_or xs i x → list_all test xs ≡ true → test x ≡ true
+all_at {A} test xs i x h is all = ap test is ∙ at xs i x h all
+  where
+    at : (ys : List A) (j : ℕ) (d : A) → j < length ys → list_all test ys ≡ true → test (get_or ys j d) ≡ true
+    at [] j d below all = absurd (omega arith)
+    at (y ∷ ys) zero d below all = (and_parts (test y) (list_all test ys) all).0
+    at (y ∷ ys) (suc j) d below all = at ys j d (omega arith) (and_parts (test y) (list_all test ys) all).1
+
+pub buildable_at : (ns : List Named) (ps : List code.Phrase) (i : ℕ) (p : code.Phrase) → i < length ps → p ≡ get_or ps i p → list_all (λ k. is_buildable ns (phrase_seen k)) ps ≡ true → is_buildable ns (phrase_seen p) ≡ true
+buildable_at ns = all_at (λ k. is_buildable ns (phrase_seen k))
+
+seen_all : {A B : Type 0} (test : B → Bool) (f : A → B) (xs : List A) → list_all (λ x. test (f x)) xs ≡ list_all test (map f xs)
+seen_all test f [] = refl
+seen_all test f (x ∷ xs) = ap (λ rest. test (f x) && rest) (seen_all test f xs)
+
+pub field_at : (fields : List Field) (i : ℕ) (field : Field) → i < length fields → field ≡ get_or fields i field → list_all is_nameless_field (map field_seen fields) ≡ true → is_nameless_field (field_seen field) ≡ true
+field_at fields i field below is all = all_at (λ f. is_nameless_field (field_seen f)) fields i field below is (seen_all is_nameless_field field_seen fields ∙ all)
+
+pub kind_at : (kinds : List VariableKind) (i : ℕ) (kind : VariableKind) → i < length kinds → kind ≡ get_or kinds i kind → list_all is_nameless (map kind_seen kinds) ≡ true → is_nameless (kind_seen kind) ≡ true
+kind_at kinds i kind below is all = all_at (λ k. is_nameless (kind_seen k)) kinds i kind below is (seen_all is_nameless kind_seen kinds ∙ all)
+
+-- what is found without a name is what is kept
+pub field_same : (field : Field) (f : tree.Field SolverDefId) → is_nameless_field (field_seen field) ≡ true → field_in no_names (field_seen field) ≡ Some f → f ≡ kept field
+field_same field f h e = same_Some f (kept field) (sym e ∙ field_is_kept no_names field h)
+
+pub kind_same : (kind : VariableKind) (k : Kind SolverDefId) → is_nameless (kind_seen kind) ≡ true → kind_in no_names (kind_seen kind) ≡ Some k → k ≡ kind_kept kind
+kind_same kind k h e = same_Some k (kind_kept kind) (sym e ∙ kind_is_kept no_names kind h)
+
+-- one more is kept
+pub kept_more : {X Y K : Type 0} (name : Y → K) (keep : X → K) (xs : List X) (i : ℕ) (x : X) → i < length xs → x ≡ get_or xs i x → (ys more : List Y) (y : Y) → map name ys ≡ map keep (take i xs) → name y ≡ keep x → more ≡ ys ++ y ∷ [] → map name more ≡ map keep (take (i + 1) xs)
+kept_more name keep xs i x below is ys more y so_far same pushed =
+    ap (map name) pushed ∙ map_push name ys y ∙ (λ j. so_far j ++ same j ∷ [])
+    ∙ sym (ap (map keep) (take_more xs i x below ∙ ap (λ o. take i xs ++ o ∷ []) (sym is)) ∙ map_push keep (take i xs) x)
 
 -- ---- a phrase of the code that is a label
 
 -- what the lemmas on a label take
-pub record IsLabel (env : Environment) (ns : List Named) (p : Phrase) (word : Word) (fields : List Field) (ks : List code.Phrase) : Type 0 where
-  pub is : p ≡ Labelled (labelled word fields) None (phrases_seen ks)
+pub record IsLabel (env : Environment) (ns : List Named) (p : Phrase) (word : Word) (fields : List Field) (bind : Option (Vec VariableKind Global)) (ks : List code.Phrase) : Type 0 where
+  pub is : p ≡ Labelled (label_seen word fields) (bind_seen bind) (phrases_seen ks)
   pub buildable : is_buildable ns p ≡ true
 
-pub phrase_is : (env : Environment) (ns : List Named) (phrase : code.Phrase) (word : Word) (fields : Vec Field Global) (kids : Vec code.Phrase Global) (ks : List code.Phrase) → phrase ≡ code.Labelled word fields kids → ks ≡ kids.items → is_buildable ns (phrase_seen phrase) ≡ true → IsLabel env ns (phrase_seen phrase) word fields.items ks
-phrase_is env ns phrase word fields kids ks is items buildable = record {
-  is = ap phrase_seen is ∙ seen_labelled word fields kids ∙ ap (λ os. Labelled (labelled word fields.items) None (phrases_seen os)) (sym items);
+pub phrase_is : (env : Environment) (ns : List Named) (phrase : code.Phrase) (word : Word) (fields : Vec Field Global) (bind : Option (Vec VariableKind Global)) (kids : Vec code.Phrase Global) (ks : List code.Phrase) → phrase ≡ code.Labelled word fields bind kids → ks ≡ kids.items → is_buildable ns (phrase_seen phrase) ≡ true → IsLabel env ns (phrase_seen phrase) word fields.items bind ks
+phrase_is env ns phrase word fields bind kids ks is items buildable = record {
+  is = ap phrase_seen is ∙ seen_labelled word fields bind kids ∙ ap (λ qs. Labelled (label_seen word fields.items) (bind_seen bind) (phrases_seen qs)) (sym items);
   buildable = buildable;
 }
 
-module _ {env : Environment} {ns : List Named} {p : Phrase} {word : Word} {fields : List Field} {ks : List code.Phrase} (l : IsLabel env ns p word fields ks) where
-  own_buildable : is_buildable ns (Labelled (labelled word fields) None (phrases_seen ks)) ≡ true
+module _ {env : Environment} {ns : List Named} {p : Phrase} {word : Word} {fields : List Field} {bind : Option (Vec VariableKind Global)} {ks : List code.Phrase} (l : IsLabel env ns p word fields bind ks) where
+  own_buildable : is_buildable ns (Labelled (label_seen word fields) (bind_seen bind) (phrases_seen ks)) ≡ true
   own_buildable = sym (ap (is_buildable ns) l.is) ∙ l.buildable
 
   pub label_kids_buildable : list_all (λ k. is_buildable ns (phrase_seen k)) ks ≡ true
-  label_kids_buildable = list_seen ns ks (label_kids ns (labelled word fields) None (phrases_seen ks) own_buildable)
+  label_kids_buildable = list_seen ns ks (label_kids ns (label_seen word fields) (bind_seen bind) (phrases_seen ks) own_buildable)
 
-  tree_seen : (ts : Terms) → trees_of env (phrases_seen ks) ≡ Some ts → environment.tree_of env p ≡ Some (own_tree word fields ts)
+  nameless : (list_all is_nameless_field (map field_seen fields) ≡ true) × (is_nameless_bind (bind_seen bind) ≡ true) × (bind_fits (row word).parts (bind_seen bind) ≡ true)
+  nameless = label_nameless ns (label_seen word fields) (bind_seen bind) (phrases_seen ks) own_buildable
+
+  pub own_nameless : list_all is_nameless_field (map field_seen fields) ≡ true
+  own_nameless = nameless.0
+
+  pub bind_nameless : is_nameless_bind (bind_seen bind) ≡ true
+  bind_nameless = nameless.1
+
+  parts_of_label : (word ≡ TypeList → ⊥) → (is_word_among label_words word ≡ true) × (fields_fit (field_forms (row word).parts) (map field_seen fields) ≡ true) × (kids_makeable ns (kid_forms (row word).parts) (phrases_seen ks) ≡ true)
+  parts_of_label other = term_parts ns (label_seen word fields) (bind_seen bind) (phrases_seen ks) other own_buildable
+
+  kept_fits : (word ≡ TypeList → ⊥) → fields_fit (field_forms (row word).parts) (map kept fields) ≡ true
+  kept_fits other = sym (fields_alike (field_forms (row word).parts) fields) ∙ (parts_of_label other).1
+
+  -- the tree that the label makes
+  bare : word ≡ BoundVariable → (ts : Terms) → trees_of env (phrases_seen ks) ≡ Some ts → tree_made (kept_label word fields) (binds_kept bind) ts ≡ Some (own_tree word fields bind ts)
+  bare is ts trees =
+      let other : word ≡ TypeList → ⊥ = λ list. absurd cc in
+      let none = no_group (row word).parts (bind_seen bind) (ap (λ w. not (has_for_group (row w).parts)) is) nameless.2 in
+      let kids = no_kids ns word (phrases_seen ks) is (parts_of_label other).2 in
+      variable_made (kept_label word fields) (binds_kept bind) ts is (variable_row word (map kept fields) is (kept_fits other)) (none_kept bind none)
+      (sym (same_Some End ts (sym (ap (trees_of env) kids) ∙ trees)))
+
+  made_tree : (ts : Terms) → trees_of env (phrases_seen ks) ≡ Some ts → tree_made (kept_label word fields) (binds_kept bind) ts ≡ Some (own_tree word fields bind ts)
+  made_tree ts trees = elim (or_cases (is_node_word word) (same_word word BoundVariable) (label_passes ns is_known words_are_known refl (label_seen word fields) (bind_seen bind) (phrases_seen ks) own_buildable)) [
+    | inl node ↦ node_made (kept_label word fields) (binds_kept bind) ts node
+    | inr variable ↦ bare (same_word_is word BoundVariable variable) ts trees
+  ]
+
+  tree_seen : (ts : Terms) → trees_of env (phrases_seen ks) ≡ Some ts → environment.tree_of env p ≡ Some (own_tree word fields bind ts)
   tree_seen ts trees = ap (environment.tree_of env) l.is
-      ∙ seen_tree env word fields (phrases_seen ks) ts (label_passes ns is_plain_word words_are_plain refl (labelled word fields) None (phrases_seen ks) own_buildable) trees
+      ∙ label_tree env (label_seen word fields) (bind_seen bind) (phrases_seen ks) (map kept fields) (binds_kept bind) ts (own_tree word fields bind ts)
+      (each_kept env fields own_nameless) (bind_is_kept env bind bind_nameless) trees (made_tree ts trees)
 
-  counted : is_counted_word word ≡ true
-  counted = label_passes ns is_counted_word words_are_counted refl (labelled word fields) None (phrases_seen ks) own_buildable
+  counted : is_counted (kept_label word fields) (binds_kept bind) ≡ true
+  counted = label_counted (kept_label word fields) (binds_kept bind)
+      (label_passes ns is_counted_word words_are_counted refl (label_seen word fields) (bind_seen bind) (phrases_seen ks) own_buildable)
+      (kept_kind fields) (bind_alike (row word).parts bind nameless.2)
 
   -- it is refused before its node is made
-  pub kids_refused : {T : Type 0} (old mid : State) (e : TermError) (ts : Terms) → trees_of env (phrases_seen ks) ≡ Some ts → Makes {T = T} old mid (all_parts ts) (Err e) → Builds env ns old mid p (Err e)
-  kids_refused old mid e ts trees makes = record {
-    made = own_tree word fields ts;
+  refused : {T : Type 0} (old mid : State) (e : TermError) (ts : Terms) → trees_of env (phrases_seen ks) ≡ Some ts → Makes {T = T} old mid (all_parts ts ++ variable_lists (binds_kept bind)) (Err e) → Builds env ns old mid p (Err e)
+  refused old mid e ts trees makes = record {
+    made = own_tree word fields bind ts;
     tree = tree_seen ts trees;
-    makes = makes_err old mid (all_parts ts) (parts (own_tree word fields ts)) e makes (below_is_part (shape word (map kept fields)).label ts counted);
+    makes = makes_err old mid (all_parts ts ++ variable_lists (binds_kept bind)) (parts (own_tree word fields bind ts)) e makes (below_is_part (kept_label word fields) (binds_kept bind) ts counted);
     live = tt;
     stands = tt;
     suits = tt;
   }
 
+  pub kids_refused : {T : Type 0} (old mid : State) (e : TermError) (ts : Terms) → trees_of env (phrases_seen ks) ≡ Some ts → Makes {T = T} old mid (all_parts ts) (Err e) → Builds env ns old mid p (Err e)
+  kids_refused {T} old mid e ts trees makes = refused {T = T} old mid e ts trees (makes_err old mid (all_parts ts) (all_parts ts ++ variable_lists (binds_kept bind)) e makes (part_left (all_parts ts) (variable_lists (binds_kept bind))))
+
+  -- what is bound is what is kept
+  bound_is : {old new : State} {r : Result (Option BoundVarKinds) TermError} (binds : Binds old new (bind_seen bind) r) → binds.made ≡ binds_kept bind
+  bound_is binds = same_Some binds.made (binds_kept bind) (sym binds.found ∙ bind_is_kept no_names bind bind_nameless)
+
+  -- its kids' parts and the list of what it binds
+  both_make : (old mid bound : State) (made : Vec Part Global) (kids : BuildsAll env ns old mid (phrases_seen ks) (Ok made)) (r : Result (Option BoundVarKinds) TermError) → Binds mid bound (bind_seen bind) r → Makes old bound (all_parts kids.made ++ variable_lists (binds_kept bind)) r
+  both_make old mid bound made kids r binds = makes_then old mid bound (all_parts kids.made) (variable_lists (binds_kept bind)) made r kids.makes
+      (subst (λ (b : Option (List (Kind SolverDefId))). Makes mid bound (variable_lists b) r) (bound_is binds) binds.makes)
+
+  pub binder_refused : (old mid new : State) (made : Vec Part Global) (e : TermError) → BuildsAll env ns old mid (phrases_seen ks) (Ok made) → Binds mid new (bind_seen bind) (Err e) → Builds env ns old new p (Err e)
+  binder_refused old mid new made e kids binds = refused old new e kids.made kids.trees (both_make old mid new made kids (Err e) binds)
+
   pub label_types : word ≡ TypeList → (qs : List Part) → AllSuit ns (phrases_seen ks) qs → Each (λ q. part_sort q ≡ OfType) qs
-  label_types list qs suit = members_typed ns (phrases_seen ks) qs (list_parts ns (labelled word fields) None (phrases_seen ks) list own_buildable).1 suit
+  label_types list qs suit = members_typed ns (phrases_seen ks) qs (list_parts ns (label_seen word fields) (bind_seen bind) (phrases_seen ks) list own_buildable).2 suit
 
-  pub list_shape : word ≡ TypeList → (ts : List Ty) → tys_shape ts ≡ shape word (map kept fields)
-  list_shape list ts =
-      let none = no_fields_kept fields (list_parts ns (labelled word fields) None (phrases_seen ks) list own_buildable).0 in
-      (λ i. shape (sym list i) (none i))
+  pub list_binds : word ≡ TypeList → (s : State) → Binds s s (bind_seen bind) (Ok None)
+  list_binds list s = binds_nothing s (bind_seen bind) (list_parts ns (label_seen word fields) (bind_seen bind) (phrases_seen ks) list own_buildable).1
 
-  pub label_fits : (word ≡ TypeList → ⊥) → (fs : Fields) → each_of (field_in no_names) (map field_seen fields) ≡ Some fs → (qs : List Part) → AllSuit ns (phrases_seen ks) qs → FitsRow word fs qs
-  label_fits other fs each qs suit =
-      let parts = term_parts ns (labelled word fields) None (phrases_seen ks) other own_buildable in
+  pub list_layer : word ≡ TypeList → (ts : List Ty) → tys_layer ts ≡ layer_of word (map kept fields) None (tys_kids ts)
+  list_layer list ts =
+      let none = no_fields_kept fields (list_parts ns (label_seen word fields) (bind_seen bind) (phrases_seen ks) list own_buildable).0 in
+      (λ i. layer_of (sym list i) (none i) None (tys_kids ts))
+
+  pub label_fits : (word ≡ TypeList → ⊥) → (fs : Fields) → each_of (field_in no_names) (map field_seen fields) ≡ Some fs → (qs : List Part) → AllSuit ns (phrases_seen ks) qs
+      → {old new : State} (v : Option BoundVarKinds) → Binds old new (bind_seen bind) (Ok v) → FitsRow word fs v qs
+  label_fits other fs each qs suit {new = new} v binds =
+      let parts = parts_of_label other in
       record {
         built = parts.0;
-        fields = ap (fields_fit (field_forms (row word).parts)) (are_kept fields fs each) ∙ sym (fields_alike (field_forms (row word).parts) fields) ∙ parts.1;
+        fields = ap (fields_fit (field_forms (row word).parts)) (are_kept fields fs own_nameless each) ∙ kept_fits other;
+        binder = group_is new.heap (row word).parts bind v nameless.2 (binds.kinds ∙ bound_is binds);
         kids = parts_fit ns (kid_forms (row word).parts) (phrases_seen ks) qs (row_lists word parts.0) parts.2 suit;
       }
 
-  pub label_shape : (own : Shape) (fs : Fields) → own ≡ shape word fs → each_of (field_in no_names) (map field_seen fields) ≡ Some fs → own ≡ shape word (map kept fields)
-  label_shape own fs own_is each = own_is ∙ ap (shape word) (are_kept fields fs each)
+  pub label_layer : (own : Layer Part) (fs : Fields) (v : Option BoundVarKinds) (qs : List Part) → own ≡ layer_of word fs v qs → each_of (field_in no_names) (map field_seen fields) ≡ Some fs → own ≡ layer_of word (map kept fields) v qs
+  label_layer own fs v qs own_is each = own_is ∙ ap (λ gs. layer_of word gs v qs) (are_kept fields fs own_nameless each)
+
+  -- the names in its layer are live
+  pub label_live : (old mid bound : State) (made : Vec Part Global) → BuildsAll env ns old mid (phrases_seen ks) (Ok made) → (v : Option BoundVarKinds) → Binds mid bound (bind_seen bind) (Ok v)
+      → (qs : List Part) → qs ≡ made.items → (own : Layer Part) (fs : Fields) → own ≡ layer_of word fs v qs → Each (IsLive bound.heap) (names_in own)
+  label_live old mid bound made kids v binds qs same own fs own_is =
+      let live = Each-map (IsLive mid.heap) (IsLive bound.heap) binds.makes.grows.live made.items kids.live in
+      subst (λ (o : Layer Part). Each (IsLive bound.heap) (names_in o)) (sym own_is) (subst (λ os. Each (IsLive bound.heap) (with_binder (option_map part.BoundVarKinds v) os)) (sym same) (both v binds.live made.items live))
+    where
+      both : (v : Option BoundVarKinds) → Each (IsLive bound.heap) (with_binder (option_map part.BoundVarKinds v) []) → (os : List Part) → Each (IsLive bound.heap) os → Each (IsLive bound.heap) (with_binder (option_map part.BoundVarKinds v) os)
+      both None one os live = live
+      both (Some w) one os live = (one.0, live)
 
   -- no list of types
   no_types : (word ≡ TypeList → ⊥) → is_list_makeable ns TypeList OfType p ≡ true → ⊥
-  no_types other list = other (same_word_is word TypeList (and_parts (same_word word TypeList) _ (and_parts _ (all_makeable ns OfType (phrases_seen ks)) (sym (ap (is_list_makeable ns TypeList OfType) l.is) ∙ list)).0).0)
+  no_types other list = other (same_word_is word TypeList (list_is TypeList (label_seen word fields) (bind_seen bind) (and_parts (list_label TypeList (label_seen word fields) (bind_seen bind)) (all_makeable ns OfType (phrases_seen ks)) (sym (ap (is_list_makeable ns TypeList OfType) l.is) ∙ list)).0).word)
 
-  -- once its kids' parts are made, the node is
-  module _ (old mid new : State) (made : Vec Part Global) (kids : BuildsAll env ns old mid (phrases_seen ks) (Ok made)) (sound : IsSound mid.heap) (counts : Counts mid.heap mid.count)
-      (qs : List Part) (same : qs ≡ made.items) (own : Shape) (own_is : own ≡ shape word (map kept fields)) where
-    planted : own_tree word fields kids.made ≡ plant own (forest (tree_of mid.heap) qs)
-    planted = sym (λ i. plant (own_is i) ((ap (forest (tree_of mid.heap)) same ∙ kids.stand) i))
+  -- once its kids' parts and the list of what it binds are made, the node is
+  module _ (old mid bound new : State) (made : Vec Part Global) (kids : BuildsAll env ns old mid (phrases_seen ks) (Ok made)) (v : Option BoundVarKinds) (binds : Binds mid bound (bind_seen bind) (Ok v)) (counts : Counts bound.heap bound.count)
+      (qs : List Part) (same : qs ≡ made.items) (own : Layer Part) (own_is : own ≡ layer_of word (map kept fields) v qs) where
+    kids_stand : forest (tree_of bound.heap) qs ≡ kids.made
+    kids_stand = ap (forest (tree_of bound.heap)) same
+        ∙ forest-same (tree_of bound.heap) (tree_of mid.heap) made.items (Each-map (IsLive mid.heap) (λ q. tree_of bound.heap q ≡ tree_of mid.heap q) binds.makes.grows.tree made.items kids.live)
+        ∙ kids.stand
 
-    node_makes : {T : Type 0} {name : T → Part} (r : Result T TermError) → NewAnswers name mid new own qs r → Makes old new (parts (own_tree word fields kids.made)) r
-    node_makes r a = makes_same old new (all_parts kids.made ++ own_tree word fields kids.made ∷ []) (parts (own_tree word fields kids.made)) r
-        (makes_then old mid new (all_parts kids.made) (own_tree word fields kids.made ∷ []) made r kids.makes
-        (makes_new mid new own qs r (own_tree word fields kids.made) sound counts (subst (Each (IsLive mid.heap)) (sym same) kids.live) planted a))
-        (last_is_part (shape word (map kept fields)).label kids.made counted) (part_is_last (shape word (map kept fields)).label kids.made counted)
+    planted : own_tree word fields bind kids.made ≡ tree_above bound.heap own
+    planted = (λ i. plant (record { label = kept_label word fields; bind = sym (binds.kinds ∙ bound_is binds) i }) (sym kids_stand i)) ∙ ap (tree_above bound.heap) (sym own_is)
+
+    node_makes : {T : Type 0} {name : T → Part} (r : Result T TermError) → NewAnswers name bound new own r → Makes old new (parts (own_tree word fields bind kids.made)) r
+    node_makes r a = makes_same old new ((all_parts kids.made ++ variable_lists (binds_kept bind)) ++ own_tree word fields bind kids.made ∷ []) (parts (own_tree word fields bind kids.made)) r
+        (makes_then old bound new (all_parts kids.made ++ variable_lists (binds_kept bind)) (own_tree word fields bind kids.made ∷ []) v r (both_make old mid bound made kids (Ok v) binds)
+        (makes_new bound new own r (own_tree word fields bind kids.made) counts planted a))
+        (last_is_part (kept_label word fields) (binds_kept bind) kids.made counted) (part_is_last (kept_label word fields) (binds_kept bind) kids.made counted)
 
     pub label_made : {T : Type 0} {name : T → Part} (t : T) → ((q : Part) → IsLive new.heap q → sort_of (tree_of new.heap q) ≡ part_sort q) → (is_list_makeable ns TypeList OfType p ≡ true → is_list_of TypeList (name t) ≡ true)
-        → NewAnswers name mid new own qs (Ok t) → Builds env ns old new p (Ok (name t))
+        → NewAnswers name bound new own (Ok t) → Builds env ns old new p (Ok (name t))
     label_made {name = name} t sorts types a = record {
-      made = own_tree word fields kids.made;
+      made = own_tree word fields bind kids.made;
       tree = tree_seen kids.made kids.trees;
-      makes = makes_ok old new (parts (own_tree word fields kids.made)) t (name t) (node_makes (Ok t) a);
+      makes = makes_ok old new (parts (own_tree word fields bind kids.made)) t (name t) (node_makes (Ok t) a);
       live = a.ok.live;
       stands = a.ok.tree ∙ sym planted;
       suits = record {
-        sort = sym (sorts (name t) a.ok.live) ∙ ap sort_of (a.ok.tree ∙ sym planted) ∙ sort_alike word fields ∙ sym (ap (phrase_sort ns) l.is);
+        sort = sym (sorts (name t) a.ok.live) ∙ ap sort_of (a.ok.tree ∙ sym planted) ∙ sort-plant (record { label = kept_label word fields; bind = binds_kept bind }) kids.made ∙ sort_alike word fields ∙ sym (ap (phrase_sort ns) l.is);
         types = types;
       };
     }
 
-    pub label_refused : {T : Type 0} {name : T → Part} (e : TermError) → NewAnswers name mid new own qs (Err e) → Builds env ns old new p (Err e)
+    pub label_refused : {T : Type 0} {name : T → Part} (e : TermError) → NewAnswers name bound new own (Err e) → Builds env ns old new p (Err e)
     label_refused e a = record {
-      made = own_tree word fields kids.made;
+      made = own_tree word fields bind kids.made;
       tree = tree_seen kids.made kids.trees;
-      makes = makes_err old new (parts (own_tree word fields kids.made)) (parts (own_tree word fields kids.made)) e (node_makes (Err e) a) (λ t h. h);
+      makes = makes_err old new (parts (own_tree word fields bind kids.made)) (parts (own_tree word fields bind kids.made)) e (node_makes (Err e) a) (λ t h. h);
       live = tt;
       stands = tt;
       suits = tt;
     }
 
-    pub label_answers : (word ≡ TypeList → ⊥) → (r : Result Part TermError) → ((q : Part) → IsLive new.heap q → sort_of (tree_of new.heap q) ≡ part_sort q) → NewAnswers (λ q. q) mid new own qs r → Builds env ns old new p r
+    pub label_answers : (word ≡ TypeList → ⊥) → (r : Result Part TermError) → ((q : Part) → IsLive new.heap q → sort_of (tree_of new.heap q) ≡ part_sort q) → NewAnswers (λ q. q) bound new own r → Builds env ns old new p r
     label_answers other (Ok q) sorts a = label_made q sorts (λ list. absurd (no_types other list)) a
     label_answers other (Err e) sorts a = label_refused e a
 
@@ -492,7 +758,7 @@ name_built s ns phrase name bytes q sound terms is same found =
     record {
       made = tree_of s.heap q;
       tree = ap (λ p. environment.tree_of (env_of s.heap ns) (phrase_seen p)) is ∙ term_is s.heap ns name ∙ ap (option_map (tree_of s.heap)) here;
-      makes = makes_standing s q t.live (parts_stand s.heap sound (tree_of s.heap q) t.plain q t.live refl);
+      makes = makes_standing s q t.live (parts_stand s.heap sound (tree_of s.heap q) q t.live refl);
       live = t.live;
       stands = refl;
       suits = record {

@@ -13,6 +13,14 @@ pub among_left : (cs ds : List spec.Cause) (c : spec.Cause) → is_cause_among c
 among_left [] ds c h = cc
 among_left (d ∷ cs) ds c h = or_more (nat_eq (cause_number d) (cause_number c)) (is_cause_among cs c) (is_cause_among (cs ++ ds) c) (among_left cs ds c) h
 
+or_last : (b x : Bool) → x ≡ true → (b || x) ≡ true
+or_last true x h = refl
+or_last false x h = h
+
+pub among_right : (cs ds : List spec.Cause) (c : spec.Cause) → is_cause_among ds c ≡ true → is_cause_among (cs ++ ds) c ≡ true
+among_right [] ds c h = h
+among_right (d ∷ cs) ds c h = or_last (nat_eq (cause_number d) (cause_number c)) (is_cause_among (cs ++ ds) c) (among_right cs ds c h)
+
 is_among_left : (cs ds : List spec.Cause) (o : Option spec.Cause) → IsAmong cs o → IsAmong (cs ++ ds) o
 is_among_left cs ds (Some c) h = among_left cs ds c h
 is_among_left cs ds None h = absurd h

@@ -1,79 +1,98 @@
 -- The faults of a phrase in its place.
-use Rattle.std.proofs.Common.{◌≡◌, ℕ, ◌+◌, ◌<◌, Bool, true, false, ◌&&◌, List, [], ◌∷◌, ◌++◌, length, get_or, drop, map, Option, Some, None, is_some, option_map, Vec, Global, refl, sym, ap, subst, ◌∙◌}
+use Rattle.std.proofs.Common.{◌≡◌, ℕ, ◌+◌, ◌<◌, Bool, true, false, ◌&&◌, List, [], ◌∷◌, ◌++◌, length, get_or, take, drop, map, flat_map, Option, Some, None, is_some, option_map, Vec, Global, refl, sym, ap, subst, ◌∙◌}
 use Rattle.ir_laws.specs.declared.words.Word.{Word}
-use Rattle.ir_laws.specs.declared.labels.Sort.TheVariants.{OfList, OfExistential}
+use Rattle.ir_laws.specs.declared.labels.Sort.TheVariants.{OfExistential}
 use Rattle.ir_laws.specs.declared.labels.FieldForm.{FieldForm}
-use Rattle.ir_laws.specs.declared.labels.FieldForm.TheVariants.{OneWordOf, ItemOf, AliasOfTrait, IdOf, ANumber, AVariableKind, ARegionKind, AMemory}
+use Rattle.ir_laws.specs.declared.labels.FieldForm.TheVariants.{ItemOf}
 use Rattle.ir_laws.specs.declared.labels.KidForm.TheVariants.{OneOf, TypeOrConstant, ListOf, ArgumentsOf}
 use Rattle.ir_laws.specs.declared.labels.Part.{Part}
 use Rattle.ir_laws.specs.declared.labels.Part.TheVariants.{Fixed, ForGroup, AField, AKid}
 use Rattle.ir_core.specs.declared.handles.Part.{Part as Held}
 use Rattle.ir_laws.specs.declared.labels.Sort.{Sort}
-use Rattle.ir_laws.specs.Environment.{Environment, NamedTerm}
+use Rattle.ir_laws.specs.Environment.{Environment, NamedTerm, is_here, item_named}
 use Rattle.ir_laws.specs.Heap.{Heap, tree_of}
-use Rattle.ir_laws.specs.Tree.{Text, Term}
+use Rattle.ir_laws.specs.Tree.{Text, KindName, Nameless, Environment as EnvName, Called, Label, Term}
 use Rattle.ir_table.specs.Fits.{part_sort}
 use Rattle.ir_laws.specs.Cause.{Cause, WrongSort, is_cause_among}
-use Rattle.ir_laws.specs.Counts.{sort_of, sort_of_fields, sort_of_label, word_of}
+use Rattle.ir_laws.specs.Counts.{sort_of, sort_of_label, word_of}
 use Rattle.ir_laws.specs.Same.{same_sort}
-use Rattle.ir_laws.specs.Label.{Always, ByKind, row}
-use Rattle.ir_laws.specs.Names.{field_forms, by_form, unless}
-use Rattle.ir_laws.specs.Phrase.{Labelled, ThenPhrase, Phrase, Phrases, and_then, phrase_list}
-use Rattle.ir_laws.specs.Sorts.{Wanted, sort_of_phrase, term_misfits, fields_misfits, fields_counted, has_some, OfSorts, AClause, ATrait, Members, Arguments, suits, field_misfits, first_item, argument_sorts, kids_wanted, kid_wanted, Places, places, length_misfits, misfits, each_misfits}
+use Rattle.ir_laws.specs.Label.{row}
+use Rattle.ir_laws.specs.Names.{field_forms, unless, if_so}
+use Rattle.ir_laws.specs.Phrase.{ThenPhrase, Phrase, Phrases, and_then}
+use Rattle.ir_laws.specs.Sorts.{Wanted, sort_of_phrase, term_misfits, kind_misfits, bind_misfits, label_misfits, fields_misfits, fields_counted, has_some, OfSorts, AClause, ATrait, Members, Arguments, suits, field_misfits, first_item, argument_sorts, kids_wanted, kid_wanted, Places, places, length_misfits, misfits, each_misfits}
 use Rattle.ir_script.specs.declared.causes.Cause as cause_type
 use Rattle.ir_script.specs.declared.causes.Cause.TheVariants as cause
 use Rattle.ir_script.specs.declared.phrases.Phrase as code
 use Rattle.ir_script.specs.declared.phrases.Field.{Field}
-use Rattle.ir_script.specs.declared.phrases.Field.TheVariants.{Chosen}
+use Rattle.ir_script.specs.declared.phrases.Field.TheVariants.{Chosen, Number, OfKind}
+use Rattle.ir_script.specs.declared.phrases.VariableKind.{VariableKind}
 use Rattle.ir_script.specs.Causes.{no_names, Says, Finds}
-use Rattle.ir_script.specs.Phrases.{field_seen, phrase_seen, phrases_seen}
+use Rattle.ir_script.specs.Phrases.{name_in, kind_seen, field_seen, label_seen, bind_seen, phrase_seen, phrases_seen}
 use Rattle.ir_script.specs.Wanted.{bare}
 use Rattle.ir_script.specs.Scope.{Named, part_named, named_only, env_of, AreTerms}
 use Rattle.ir_script.proofs.ScopeLemmas.{term_is, named_is_term}
-use Rattle.ir_script.proofs.CauseLemmas.{says_left, found_left}
-use Rattle.ir_script.proofs.KidLemmas.{labelled, seen_labelled, phrases_from, phrases_length}
+use Rattle.ir_script.proofs.CauseLemmas.{among_left, among_right, says_left, found_left}
+use Rattle.ir_script.proofs.FieldLemmas.{by_form-placed, flat_map-map}
+use Rattle.ir_script.proofs.KidLemmas.{seen_labelled, phrases_from, phrases_length}
 
 -- of no fields none are counted
 none_counted : (b : Bool) (parts : List Part) → kids_wanted no_names (elim b [ true ↦ [] | false ↦ [] ]) parts ≡ kids_wanted no_names [] parts
 none_counted true parts = refl
 none_counted false parts = refl
 
--- what a test of the word's sort says
-pub suit_is : (wanted : Wanted) (word : Word) (sort : Sort) (r b : Bool) → ((w : Word) → r ≡ suits wanted w sort) → sort ≡ sort_of_label (bare word) → r ≡ b → suits wanted word (sort_of_label (bare word)) ≡ b
-suit_is wanted word sort r b suit of is = ap (suits wanted word) (sym of) ∙ sym (suit word) ∙ is
+-- what a test of the label's sort says
+pub suit_is : (wanted : Wanted) (word : Word) (fs : List Field) (fields : Vec Field Global) (sort : Sort) (r b : Bool) → ((w : Word) → r ≡ suits wanted w sort) → sort ≡ sort_of_label (label_seen word fs) → fs ≡ fields.items → r ≡ b → suits wanted word (sort_of_label (label_seen word fields.items)) ≡ b
+suit_is wanted word fs fields sort r b suit of fields_are is = ap (λ fs. suits wanted word (sort_of_label (label_seen word fs))) (sym fields_are) ∙ ap (suits wanted word) (sym of) ∙ sym (suit word) ∙ is
 
 module _ (ts : List NamedTerm) where
   abbrev env : Environment
   env = named_only ts
 
-  -- ---- keywords change nothing
+  -- ---- variable kinds
 
-  fields_sort : (fields : List Field) → sort_of_fields (map field_seen fields) ≡ OfList
-  fields_sort [] = refl
-  fields_sort (Chosen word ∷ fields) = fields_sort fields
+  -- a kind misfits where it has a name, since no item is declared
+  abbrev pub kind_fault : VariableKind → List Cause
+  kind_fault k = kind_misfits env (kind_seen k)
 
-  pub label_sort : (word : Word) (fields : List Field) → sort_of_label (labelled word fields) ≡ sort_of_label (bare word)
-  label_sort word fields = ap (λ s. elim ((row word).sort) [ Always t ↦ t | ByKind ↦ s ]) (fields_sort fields)
+  pub kind_named : {X : Type 0} (k : VariableKind) (f : X → Text) (o : Option X) → option_map f o ≡ name_in (kind_seen k) → kind_fault k ≡ if_so (is_some o) WrongSort
+  kind_named {X = X} k f o is = by (kind_seen k).name ∙ ap (λ b. if_so b WrongSort) (ap is_some (sym is) ∙ some o)
+    where
+      some : (o : Option X) → is_some (option_map f o) ≡ is_some o
+      some None = refl
+      some (Some x) = refl
 
-  field_fits : (form : FieldForm) (field : Field) → field_misfits env form (field_seen field) ≡ []
-  field_fits (OneWordOf choice) (Chosen word) = refl
-  field_fits (ItemOf place) (Chosen word) = refl
-  field_fits AliasOfTrait (Chosen word) = refl
-  field_fits (IdOf place) (Chosen word) = refl
-  field_fits ANumber (Chosen word) = refl
-  field_fits AVariableKind (Chosen word) = refl
-  field_fits ARegionKind (Chosen word) = refl
-  field_fits AMemory (Chosen word) = refl
+      by : (n : KindName Text) → elim n [ Nameless ↦ [] | EnvName ↦ [] | Called m ↦ unless (is_here (item_named env m)) WrongSort ] ≡ if_so (is_some (elim n as (λ n. Option Text) [ Nameless ↦ None | EnvName ↦ None | Called m ↦ Some m ])) WrongSort
+      by Nameless = refl
+      by EnvName = refl
+      by (Called m) = refl
 
-  fields_fit : (forms : List FieldForm) (fields : List Field) → by_form (field_misfits env) forms (map field_seen fields) ≡ []
-  fields_fit [] fields = refl
-  fields_fit (form ∷ forms) [] = refl
-  fields_fit (form ∷ forms) (field ∷ fields) =
-      ap (λ cs. cs ++ by_form (field_misfits env) forms (map field_seen fields)) (field_fits form field) ∙ fields_fit forms fields
+  -- what a field misfits by, whatever its place
+  abbrev pub own_faults : Field → List Cause
+  own_faults (Chosen word) = []
+  own_faults (Number n) = []
+  own_faults (OfKind k) = kind_fault k
+
+  pub field_faults : (form : FieldForm) (field : Field) → field_misfits env form (field_seen field) ≡ own_faults field
+  field_faults (ItemOf place) (Chosen word) = refl
+  field_faults (ItemOf place) (Number n) = refl
+  field_faults (ItemOf place) (OfKind k) = refl
+  field_faults form (Chosen word) = refl
+  field_faults form (Number n) = refl
+  field_faults form (OfKind k) = refl
+
+  pub fields_faults : (word : Word) (fields placed : List Field) → placed ≡ take (length (field_forms (row word).parts)) fields → fields_misfits env (label_seen word fields) ≡ flat_map own_faults placed
+  fields_faults word fields placed is = by_form-placed (field_misfits env) own_faults field_faults (field_forms (row word).parts) fields ∙ ap (flat_map own_faults) (sym is)
+
+  pub bind_faults : (bind : Option (Vec VariableKind Global)) (kinds : Vec VariableKind Global) (ks : List VariableKind) → bind ≡ Some kinds → ks ≡ kinds.items → bind_misfits env (bind_seen bind) ≡ flat_map kind_fault ks
+  bind_faults bind kinds ks is items = ap (λ b. bind_misfits env (bind_seen b)) is ∙ flat_map-map (kind_misfits env) kind_seen kinds.items ∙ ap (flat_map kind_fault) (sym items)
+
+  -- ---- the places of kids
 
   no_item : (fields : List Field) → first_item env (map field_seen fields) ≡ None
   no_item [] = refl
   no_item (Chosen word ∷ fields) = no_item fields
+  no_item (Number n ∷ fields) = no_item fields
+  no_item (OfKind k ∷ fields) = no_item fields
 
   kids_alike : (fields : List Field) (parts : List Part) → kids_wanted env (map field_seen fields) parts ≡ kids_wanted no_names [] parts
   kids_alike fields [] = refl
@@ -93,14 +112,14 @@ module _ (ts : List NamedTerm) where
   counted false fields parts = kids_alike fields parts
 
   is_uncounted : Word → List Field → Bool
-  is_uncounted word fields = same_sort (sort_of_label (labelled word fields)) OfExistential && has_some (fields_misfits env (labelled word fields))
+  is_uncounted word fields = same_sort (sort_of_label (label_seen word fields)) OfExistential && has_some (fields_misfits env (label_seen word fields))
 
   counted_alike : (word : Word) (fields : List Field)
-      → kids_wanted env (fields_counted env (labelled word fields)) (row word).parts ≡ kids_wanted no_names (fields_counted no_names (bare word)) (row word).parts
+      → kids_wanted env (fields_counted env (label_seen word fields)) (row word).parts ≡ kids_wanted no_names (fields_counted no_names (bare word)) (row word).parts
   unfolding is_uncounted
   counted_alike word fields = counted (is_uncounted word fields) fields (row word).parts ∙ sym (none_counted (same_sort (sort_of_label (bare word)) OfExistential && has_some (fields_misfits no_names (bare word))) (row word).parts)
 
-  places_alike : (wanted : Wanted) (word : Word) (fields : List Field) → places env wanted (labelled word fields) ≡ places no_names wanted (bare word)
+  places_alike : (wanted : Wanted) (word : Word) (fields : List Field) → places env wanted (label_seen word fields) ≡ places no_names wanted (bare word)
   places_alike (OfSorts sorts) word fields = ap (λ ws. record { first = ws; further = (places no_names (OfSorts sorts) (bare word)).further }) (counted_alike word fields)
   places_alike AClause word fields = ap (λ ws. record { first = ws; further = (places no_names AClause (bare word)).further }) (counted_alike word fields)
   places_alike ATrait word fields = ap (λ ws. record { first = ws; further = (places no_names ATrait (bare word)).further }) (counted_alike word fields)
@@ -110,39 +129,96 @@ module _ (ts : List NamedTerm) where
 
   -- ---- the faults of a label
 
-  faults : Wanted → Bool → List Cause → ℕ → Places → Phrases → List Cause
-  faults wanted fits fields count place kids = unless fits WrongSort ++ fields ++ [] ++ length_misfits wanted count ++ each_misfits env place.first place.further kids
+  module _ (wanted : Wanted) (word : Word) (fields : Vec Field Global) (bind : Option (Vec VariableKind Global)) (kids : Vec code.Phrase Global) where
+    abbrev label : Label Text
+    label = label_seen word fields.items
 
-  label_faults : (wanted : Wanted) (word : Word) (fields : List Field) (kids : List code.Phrase) (fits : Bool) → suits wanted word (sort_of_label (bare word)) ≡ fits → misfits env wanted (Labelled (labelled word fields) None (phrases_seen kids)) ≡ faults wanted fits [] (length kids) (places no_names wanted (bare word)) (phrases_seen kids)
-  unfolding faults
-  label_faults wanted word fields kids fits is =
-      let ps = phrases_seen kids in
-      let own = by_form (field_misfits env) (field_forms (row word).parts) (map field_seen fields) in
-      let count = length (phrase_list ps) in
-      let place = places env wanted (labelled word fields) in
-      ap (λ s. faults wanted (suits wanted word s) own count place ps) (label_sort word fields)
-      ∙ ap (λ b. faults wanted b own count place ps) is
-      ∙ ap (λ cs. faults wanted fits cs count place ps) (fields_fit (field_forms (row word).parts) fields)
-      ∙ ap (λ n. faults wanted fits [] n place ps) (phrases_length kids)
-      ∙ ap (λ p. faults wanted fits [] (length kids) p ps) (places_alike wanted word fields)
+    abbrev place : Places
+    place = places no_names wanted (bare word)
 
-  phrase_faults : (wanted : Wanted) (phrase : code.Phrase) (word : Word) (fields : Vec Field Global) (kids : Vec code.Phrase Global) (ks : List code.Phrase) (fits : Bool) → phrase ≡ code.Labelled word fields kids → ks ≡ kids.items → suits wanted word (sort_of_label (bare word)) ≡ fits → misfits env wanted (phrase_seen phrase) ≡ faults wanted fits [] (length ks) (places no_names wanted (bare word)) (phrases_seen ks)
-  phrase_faults wanted phrase word fields kids ks fits is items suit =
-      ap (λ p. misfits env wanted (phrase_seen p)) is
-      ∙ ap (misfits env wanted) (seen_labelled word fields kids)
-      ∙ label_faults wanted word fields.items kids.items fits suit
-      ∙ ap (λ ks. faults wanted fits [] (length ks) (places no_names wanted (bare word)) (phrases_seen ks)) (sym items)
+    -- what a label that suits has besides
+    faults : Bool → List Cause → List Cause → List Cause → List Cause → List Cause
+    faults fits fields bound length kids = unless fits WrongSort ++ fields ++ bound ++ length ++ kids
 
-  -- a label of another sort
-  pub unsuited : (wanted : Wanted) (phrase : code.Phrase) (word : Word) (fields : Vec Field Global) (kids : Vec code.Phrase Global) → phrase ≡ code.Labelled word fields kids → suits wanted word (sort_of_label (bare word)) ≡ false → Says cause.Sort (misfits env wanted (phrase_seen phrase))
-  unfolding faults
-  unsuited wanted phrase word fields kids is suit =
-      ap (λ cs. is_cause_among cs WrongSort) (phrase_faults wanted phrase word fields kids kids.items false is refl suit)
+    phrase_faults : (phrase : code.Phrase) → phrase ≡ code.Labelled word fields bind kids
+        → misfits env wanted (phrase_seen phrase) ≡ faults (suits wanted word (sort_of_label label)) (fields_misfits env label) (bind_misfits env (bind_seen bind)) (length_misfits wanted (length kids.items)) (each_misfits env place.first place.further (phrases_seen kids.items))
+    unfolding faults
+    phrase_faults phrase is =
+        ap (λ p. misfits env wanted (phrase_seen p)) is
+        ∙ ap (misfits env wanted) (seen_labelled word fields bind kids)
+        ∙ (λ i. label_misfits env wanted label ++ bind_misfits env (bind_seen bind) ++ length_misfits wanted (phrases_length kids.items i) ++ each_misfits env (places_alike wanted word fields.items i).first (places_alike wanted word fields.items i).further (phrases_seen kids.items))
 
-  -- a label that suits has the faults of its length and those of its kids
-  pub suited : (wanted : Wanted) (phrase : code.Phrase) (word : Word) (fields : Vec Field Global) (kids : Vec code.Phrase Global) (ks : List code.Phrase) → phrase ≡ code.Labelled word fields kids → ks ≡ kids.items → suits wanted word (sort_of_label (bare word)) ≡ true → misfits env wanted (phrase_seen phrase) ≡ length_misfits wanted (length ks) ++ each_misfits env (places no_names wanted (bare word)).first (places no_names wanted (bare word)).further (phrases_seen ks)
-  unfolding faults
-  suited wanted phrase word fields kids ks is items suit = phrase_faults wanted phrase word fields kids ks true is items suit
+    module _ (phrase : code.Phrase) (is : phrase ≡ code.Labelled word fields bind kids) where
+      faults_as : (fits : Bool) (own bound : List Cause) → suits wanted word (sort_of_label label) ≡ fits → fields_misfits env label ≡ own → bind_misfits env (bind_seen bind) ≡ bound
+          → misfits env wanted (phrase_seen phrase) ≡ faults fits own bound (length_misfits wanted (length kids.items)) (each_misfits env place.first place.further (phrases_seen kids.items))
+      faults_as fits own bound f g h = phrase_faults phrase is ∙ (λ i. faults (f i) (g i) (h i) (length_misfits wanted (length kids.items)) (each_misfits env place.first place.further (phrases_seen kids.items)))
+
+      -- a label of another sort
+      pub unsuited : suits wanted word (sort_of_label label) ≡ false → Says cause.Sort (misfits env wanted (phrase_seen phrase))
+      unfolding faults
+      unsuited suit = ap (λ cs. is_cause_among cs WrongSort) (faults_as false (fields_misfits env label) (bind_misfits env (bind_seen bind)) suit refl refl)
+
+      -- a label with a field that has the name of no item
+      pub named_field : (fs : List Field) → fs ≡ fields.items → is_cause_among (fields_misfits env (label_seen word fs)) WrongSort ≡ true → Says cause.Sort (misfits env wanted (phrase_seen phrase))
+      unfolding faults
+      named_field fs same named =
+          let own = fields_misfits env label in
+          let bound = bind_misfits env (bind_seen bind) in
+          let count = length_misfits wanted (length kids.items) in
+          let rest = each_misfits env place.first place.further (phrases_seen kids.items) in
+          let suit = unless (suits wanted word (sort_of_label label)) WrongSort in
+          ap (λ cs. is_cause_among cs WrongSort) (phrase_faults phrase is)
+          ∙ among_left (suit ++ own ++ bound ++ count) rest WrongSort (among_left (suit ++ own ++ bound) count WrongSort (among_left (suit ++ own) bound WrongSort (among_right suit own WrongSort (ap (λ fs. is_cause_among (fields_misfits env (label_seen word fs)) WrongSort) (sym same) ∙ named))))
+
+      -- a label that binds a variable with the name of no item
+      pub named_variable : is_cause_among (bind_misfits env (bind_seen bind)) WrongSort ≡ true → Says cause.Sort (misfits env wanted (phrase_seen phrase))
+      unfolding faults
+      named_variable named =
+          let own = fields_misfits env label in
+          let bound = bind_misfits env (bind_seen bind) in
+          let count = length_misfits wanted (length kids.items) in
+          let rest = each_misfits env place.first place.further (phrases_seen kids.items) in
+          let suit = unless (suits wanted word (sort_of_label label)) WrongSort in
+          ap (λ cs. is_cause_among cs WrongSort) (phrase_faults phrase is)
+          ∙ among_left (suit ++ own ++ bound ++ count) rest WrongSort (among_left (suit ++ own ++ bound) count WrongSort (among_right (suit ++ own) bound WrongSort named))
+
+    -- the label suits, and none of its kinds has a name
+    pub record Suited : Type 0 where
+      pub suit : suits wanted word (sort_of_label label) ≡ true
+      pub own : fields_misfits env label ≡ []
+      pub bound : bind_misfits env (bind_seen bind) ≡ []
+
+    -- the same by the tests of the code, whose fields are those of the label
+    pub suited_by : (fs : List Field) (sort : Sort) (r : Bool) → ((w : Word) → r ≡ suits wanted w sort) → sort ≡ sort_of_label (label_seen word fs) → fs ≡ fields.items → r ≡ true
+        → (gs : List Field) → gs ≡ fields.items → fields_misfits env (label_seen word gs) ≡ [] → bind_misfits env (bind_seen bind) ≡ [] → Suited
+    suited_by fs sort r suit of fields_are is gs same own bound = record {
+      suit = suit_is wanted word fs fields sort r true suit of fields_are is;
+      own = ap (λ gs. fields_misfits env (label_seen word gs)) (sym same) ∙ own;
+      bound = bound;
+    }
+
+    module _ (phrase : code.Phrase) (is : phrase ≡ code.Labelled word fields bind kids) (suited : Suited) where
+      -- it has the faults of its length and those of its kids
+      suited_faults : misfits env wanted (phrase_seen phrase) ≡ length_misfits wanted (length kids.items) ++ each_misfits env place.first place.further (phrases_seen kids.items)
+      unfolding faults
+      suited_faults = faults_as phrase is true [] [] suited.suit suited.own suited.bound
+
+      -- it has a fault of length
+      pub length_says : (count : ℕ) (c : cause_type.Cause) → count ≡ length kids.items → Says c (length_misfits wanted count) → Says c (misfits env wanted (phrase_seen phrase))
+      length_says count c counted says =
+          let rest = each_misfits env place.first place.further (phrases_seen kids.items) in
+          subst (λ (cs : List Cause). Says c cs) (ap (λ n. length_misfits wanted n ++ rest) counted ∙ sym suited_faults) (says_left (length_misfits wanted count) rest c says)
+
+      -- without one it has those of its kids
+      pub kids_find : (further : Wanted) (first : List Wanted) (ks : List code.Phrase) (count : ℕ) (found : Option cause_type.Cause) → ks ≡ kids.items → count ≡ length kids.items → length_misfits wanted count ≡ [] → first ≡ place.first → further ≡ place.further
+          → Finds found (each_misfits env first further (phrases_seen ks)) → Finds found (misfits env wanted (phrase_seen phrase))
+      kids_find further first ks count found items counted fits of_first of_further finds =
+          let whole =
+          (λ i. each_misfits env (of_first i) (of_further i) (phrases_seen (items i)))
+          ∙ ap (λ cs. cs ++ each_misfits env place.first place.further (phrases_seen kids.items)) (sym fits ∙ ap (length_misfits wanted) counted)
+          ∙ sym suited_faults
+          in
+          subst (λ (cs : List Cause). Finds found cs) whole finds
 
   -- ---- the faults of kids
 
@@ -168,26 +244,6 @@ module _ (ts : List NamedTerm) where
   fault_here ws rest further wanted kids i kid whole found h is here behind some finds so_far =
       subst (λ (cs : List Cause). Finds found cs) (sym (faults_from ws rest further wanted kids i kid h is here behind) ∙ so_far)
       (found_left (misfits env wanted (phrase_seen kid)) (each_misfits env rest further (phrases_seen (drop (i + 1) kids))) found some finds)
-
-  -- a label that suits and has a fault of length
-  pub length_says : (wanted : Wanted) (phrase : code.Phrase) (word : Word) (fields : Vec Field Global) (kids : Vec code.Phrase Global) (count : ℕ) (c : cause_type.Cause) → phrase ≡ code.Labelled word fields kids → count ≡ length kids.items → suits wanted word (sort_of_label (bare word)) ≡ true → Says c (length_misfits wanted count) → Says c (misfits env wanted (phrase_seen phrase))
-  length_says wanted phrase word fields kids count c is counted suit says =
-      let place = places no_names wanted (bare word) in
-      let whole = ap (λ n. length_misfits wanted n ++ each_misfits env place.first place.further (phrases_seen kids.items)) counted ∙ sym (suited wanted phrase word fields kids kids.items is refl suit) in
-      subst (λ (cs : List Cause). Says c cs) whole (says_left (length_misfits wanted count) (each_misfits env place.first place.further (phrases_seen kids.items)) c says)
-
-  -- a label that suits and has no fault of length has those of its kids
-  pub kids_find : (wanted further : Wanted) (first : List Wanted) (phrase : code.Phrase) (word : Word) (fields : Vec Field Global) (kids : Vec code.Phrase Global) (ks : List code.Phrase) (count : ℕ) (found : Option cause_type.Cause) → phrase ≡ code.Labelled word fields kids → ks ≡ kids.items → count ≡ length kids.items → suits wanted word (sort_of_label (bare word)) ≡ true → length_misfits wanted count ≡ [] → first ≡ (places no_names wanted (bare word)).first → further ≡ (places no_names wanted (bare word)).further → Finds found (each_misfits env first further (phrases_seen ks)) → Finds found (misfits env wanted (phrase_seen phrase))
-  kids_find wanted further first phrase word fields kids ks count found is items counted suit fits of_first of_further finds =
-      let place = places no_names wanted (bare word) in
-      let whole =
-      ap (λ ws. each_misfits env ws further (phrases_seen ks)) of_first
-      ∙ ap (λ w. each_misfits env place.first w (phrases_seen ks)) of_further
-      ∙ ap (λ cs. cs ++ each_misfits env place.first place.further (phrases_seen ks)) (sym fits)
-      ∙ ap (λ n. length_misfits wanted n ++ each_misfits env place.first place.further (phrases_seen ks)) (counted ∙ ap length (sym items))
-      ∙ sym (suited wanted phrase word fields kids ks is items suit)
-      in
-      subst (λ (cs : List Cause). Finds found cs) whole finds
 
 -- ---- names
 
@@ -234,8 +290,8 @@ module _ (h : Heap Held) (ns : List Named) (terms : AreTerms h ns) where
         by None sorts = refl
         by (Some q) sorts = ap Some (sorts q refl)
 
-  -- the sort of a label is that of its word
-  pub label_sort_seen : (phrase : code.Phrase) (word : Word) (fields : Vec Field Global) (kids : Vec code.Phrase Global) (sort : Sort) → phrase ≡ code.Labelled word fields kids → sort ≡ sort_of_label (bare word) → Some sort ≡ sort_of_phrase (env_of h ns) (phrase_seen phrase)
-  label_sort_seen phrase word fields kids sort is of =
-      ap Some (of ∙ sym (label_sort [] word fields.items))
-      ∙ sym (ap (λ p. sort_of_phrase (env_of h ns) (phrase_seen p)) is ∙ ap (sort_of_phrase (env_of h ns)) (seen_labelled word fields kids))
+  -- the sort of a label is that of its word and fields
+  pub label_sort_seen : (phrase : code.Phrase) (word : Word) (fields : Vec Field Global) (bind : Option (Vec VariableKind Global)) (kids : Vec code.Phrase Global) (fs : List Field) (sort : Sort) → phrase ≡ code.Labelled word fields bind kids → fs ≡ fields.items → sort ≡ sort_of_label (label_seen word fs) → Some sort ≡ sort_of_phrase (env_of h ns) (phrase_seen phrase)
+  label_sort_seen phrase word fields bind kids fs sort is fields_are of =
+      ap Some (of ∙ ap (λ fs. sort_of_label (label_seen word fs)) fields_are)
+      ∙ sym (ap (λ p. sort_of_phrase (env_of h ns) (phrase_seen p)) is ∙ ap (sort_of_phrase (env_of h ns)) (seen_labelled word fields bind kids))

@@ -1,52 +1,86 @@
 -- The names in phrases that aren't declared.
-use Rattle.std.proofs.Common.{◌≡◌, ℕ, ◌+◌, ◌<◌, true, List, [], ◌∷◌, ◌++◌, length, get_or, drop, map, Option, Some, None, option_map, is_some, Vec, Global, refl, sym, ap, ◌∙◌}
+use Rattle.std.proofs.Common.{◌≡◌, ℕ, ◌+◌, ◌<◌, true, List, [], ◌++◌, length, get_or, take, drop, map, flat_map, Option, Some, None, option_map, is_some, Vec, Global, refl, sym, ap, ◌∙◌}
 use Rattle.ir_laws.specs.declared.words.Word.{Word}
 use Rattle.ir_laws.specs.declared.labels.FieldForm.{FieldForm}
-use Rattle.ir_laws.specs.declared.labels.FieldForm.TheVariants.{OneWordOf, ItemOf, AliasOfTrait, IdOf, ANumber, AVariableKind, ARegionKind, AMemory}
+use Rattle.ir_laws.specs.declared.labels.FieldForm.TheVariants.{IdOf}
 use Rattle.ir_core.specs.declared.handles.Part.{Part}
-use Rattle.ir_laws.specs.Cause.{is_cause_among, Unknown}
-use Rattle.ir_laws.specs.Environment.{Environment, NamedTerm, is_here, is_known}
+use Rattle.ir_laws.specs.Cause.{Cause, is_cause_among, Unknown}
+use Rattle.ir_laws.specs.Environment.{Environment, is_here, is_known}
 use Rattle.ir_laws.specs.Heap.{Heap, tree_of}
-use Rattle.ir_laws.specs.Tree.{Text}
+use Rattle.ir_laws.specs.Tree.{Text, KindName, Nameless, Environment as EnvName, Called, Kind}
 use Rattle.ir_laws.specs.Label.{row}
-use Rattle.ir_laws.specs.Names.{unless, field_forms, by_form, unknown_field, unknown_in, unknown_each}
+use Rattle.ir_laws.specs.Names.{unless, field_forms, by_form, is_earlier_or_own, unknown_kind, unknown_field, unknown_bind, unknown_in, unknown_each}
 use Rattle.ir_script.specs.declared.phrases.Phrase as code
 use Rattle.ir_script.specs.declared.phrases.Field.{Field}
-use Rattle.ir_script.specs.declared.phrases.Field.TheVariants.{Chosen}
-use Rattle.ir_script.specs.Phrases.{field_seen, phrase_seen, phrases_seen}
-use Rattle.ir_script.specs.Scope.{Named, part_named, named_only, env_of}
-use Rattle.ir_script.proofs.CauseLemmas.{among_left}
+use Rattle.ir_script.specs.declared.phrases.Field.TheVariants.{Chosen, Number, OfKind}
+use Rattle.ir_script.specs.declared.phrases.VariableKind.{VariableKind}
+use Rattle.ir_script.specs.Phrases.{name_in, kind_seen, field_seen, bind_seen, phrase_seen, phrases_seen}
+use Rattle.ir_script.specs.Scope.{Named, part_named, env_of}
+use Rattle.ir_script.proofs.CauseLemmas.{among_left, among_right}
 use Rattle.ir_script.proofs.ScopeLemmas.{term_is}
 use Rattle.ir_script.proofs.KidLemmas.{seen_labelled, phrases_from}
+use Rattle.ir_script.proofs.FieldLemmas.{by_form-placed, flat_map-map}
 
-module _ (ts : List NamedTerm) where
-  abbrev env : Environment
-  env = named_only ts
+module _ (env : Environment) where
+  -- ---- a label
 
-  -- a keyword is no name, whatever its place
-  field_known : (form : FieldForm) (field : Field) → unknown_field env None form (field_seen field) ≡ []
-  field_known (OneWordOf choice) (Chosen word) = refl
-  field_known (ItemOf place) (Chosen word) = refl
-  field_known AliasOfTrait (Chosen word) = refl
-  field_known (IdOf place) (Chosen word) = refl
-  field_known ANumber (Chosen word) = refl
-  field_known AVariableKind (Chosen word) = refl
-  field_known ARegionKind (Chosen word) = refl
-  field_known AMemory (Chosen word) = refl
+  -- what a field is unknown by, whatever its place
+  abbrev pub own_unknown : Field → List Cause
+  own_unknown (Chosen word) = []
+  own_unknown (Number n) = []
+  own_unknown (OfKind k) = unknown_kind env None (kind_seen k)
 
-  fields_known : (forms : List FieldForm) (fields : List Field) → by_form (unknown_field env None) forms (map field_seen fields) ≡ []
-  fields_known [] fields = refl
-  fields_known (form ∷ forms) [] = refl
-  fields_known (form ∷ forms) (field ∷ fields) =
-      ap (λ cs. cs ++ by_form (unknown_field env None) forms (map field_seen fields)) (field_known form field) ∙ fields_known forms fields
+  pub field_unknown : (form : FieldForm) (field : Field) → unknown_field env None form (field_seen field) ≡ own_unknown field
+  field_unknown (IdOf place) (Chosen word) = refl
+  field_unknown (IdOf place) (Number n) = refl
+  field_unknown (IdOf place) (OfKind k) = refl
+  field_unknown form (Chosen word) = refl
+  field_unknown form (Number n) = refl
+  field_unknown form (OfKind k) = refl
 
-  -- the unknown names of a label are those of its kids
-  pub label_names : (phrase : code.Phrase) (word : Word) (fields : Vec Field Global) (kids : Vec code.Phrase Global) (ks : List code.Phrase) → phrase ≡ code.Labelled word fields kids → ks ≡ kids.items → unknown_in env None (phrase_seen phrase) ≡ unknown_each env None (phrases_seen ks)
-  label_names phrase word fields kids ks is items =
-      ap (λ p. unknown_in env None (phrase_seen p)) is
-      ∙ ap (unknown_in env None) (seen_labelled word fields kids)
-      ∙ ap (λ cs. cs ++ [] ++ unknown_each env None (phrases_seen kids.items)) (fields_known (field_forms (row word).parts) fields.items)
-      ∙ ap (λ ks. unknown_each env None (phrases_seen ks)) (sym items)
+  pub fields_unknown : (word : Word) (fields placed : List Field) → placed ≡ take (length (field_forms (row word).parts)) fields → by_form (unknown_field env None) (field_forms (row word).parts) (map field_seen fields) ≡ flat_map own_unknown placed
+  fields_unknown word fields placed is = by_form-placed (unknown_field env None) own_unknown field_unknown (field_forms (row word).parts) fields ∙ ap (flat_map own_unknown) (sym is)
+
+  -- what a kind is unknown by
+  abbrev pub kind_unknown : VariableKind → List Cause
+  kind_unknown k = unknown_kind env None (kind_seen k)
+
+  pub bind_unknown : (bind : Option (Vec VariableKind Global)) (kinds : Vec VariableKind Global) (ks : List VariableKind) → bind ≡ Some kinds → ks ≡ kinds.items → unknown_bind env None (bind_seen bind) ≡ flat_map kind_unknown ks
+  bind_unknown bind kinds ks is items = ap (λ b. unknown_bind env None (bind_seen b)) is ∙ flat_map-map (unknown_kind env None) kind_seen kinds.items ∙ ap (flat_map kind_unknown) (sym items)
+
+  module _ (phrase : code.Phrase) (word : Word) (fields : Vec Field Global) (bind : Option (Vec VariableKind Global)) (kids : Vec code.Phrase Global) (is : phrase ≡ code.Labelled word fields bind kids) where
+    abbrev of_fields : List Field → List Cause
+    of_fields fs = by_form (unknown_field env None) (field_forms (row word).parts) (map field_seen fs)
+
+    abbrev of_bind : List Cause
+    of_bind = unknown_bind env None (bind_seen bind)
+
+    abbrev of_kids : List code.Phrase → List Cause
+    of_kids ks = unknown_each env None (phrases_seen ks)
+
+    -- the unknown names of a label are those of its fields, of what it binds, and of its kids
+    label_names : unknown_in env None (phrase_seen phrase) ≡ of_fields fields.items ++ of_bind ++ of_kids kids.items
+    label_names = ap (λ p. unknown_in env None (phrase_seen p)) is ∙ ap (unknown_in env None) (seen_labelled word fields bind kids)
+
+    pub unknown_of_fields : (fs : List Field) → fs ≡ fields.items → is_cause_among (of_fields fs) Unknown ≡ true → is_cause_among (unknown_in env None (phrase_seen phrase)) Unknown ≡ true
+    unknown_of_fields fs same unknown =
+        ap (λ cs. is_cause_among cs Unknown) (label_names ∙ ap (λ fs. of_fields fs ++ of_bind ++ of_kids kids.items) (sym same))
+        ∙ among_left (of_fields fs ++ of_bind) (of_kids kids.items) Unknown (among_left (of_fields fs) of_bind Unknown unknown)
+
+    pub unknown_of_bind : is_cause_among of_bind Unknown ≡ true → is_cause_among (unknown_in env None (phrase_seen phrase)) Unknown ≡ true
+    unknown_of_bind unknown =
+        ap (λ cs. is_cause_among cs Unknown) label_names
+        ∙ among_left (of_fields fields.items ++ of_bind) (of_kids kids.items) Unknown (among_right (of_fields fields.items) of_bind Unknown unknown)
+
+    pub unknown_of_kids : (ks : List code.Phrase) → ks ≡ kids.items → is_cause_among (of_kids ks) Unknown ≡ true → is_cause_among (unknown_in env None (phrase_seen phrase)) Unknown ≡ true
+    unknown_of_kids ks same unknown =
+        ap (λ cs. is_cause_among cs Unknown) (label_names ∙ ap (λ ks. of_fields fields.items ++ of_bind ++ of_kids ks) (sym same))
+        ∙ among_right (of_fields fields.items ++ of_bind) (of_kids ks) Unknown unknown
+
+    pub label_known : (fs : List Field) (ks : List code.Phrase) → fs ≡ fields.items → ks ≡ kids.items → of_fields fs ≡ [] → of_bind ≡ [] → of_kids ks ≡ [] → unknown_in env None (phrase_seen phrase) ≡ []
+    label_known fs ks fields_are kids_are f g k = label_names ∙ (λ i. of_fields (sym fields_are i) ++ of_bind ++ of_kids (sym kids_are i)) ∙ (λ i. f i ++ g i ++ k i)
+
+  -- ---- the kids
 
   -- the unknown names from one phrase on are its own and those behind it
   names_from : (ps : List code.Phrase) (i : ℕ) (p : code.Phrase) → i < length ps → p ≡ get_or ps i p → unknown_each env None (phrases_seen (drop i ps)) ≡ unknown_in env None (phrase_seen p) ++ unknown_each env None (phrases_seen (drop (i + 1) ps))
@@ -79,3 +113,15 @@ pub code_name : (h : Heap Part) (ns : List Named) (phrase : code.Phrase) (name :
     → unknown_in (env_of h ns) None (phrase_seen phrase) ≡ unless (is_some found) Unknown
 code_name h ns phrase name bytes found is same finds =
     ap (λ p. unknown_in (env_of h ns) None (phrase_seen p)) is ∙ ap (λ b. unless b Unknown) (known_is h ns name bytes found same finds)
+
+-- ---- a variable kind
+
+-- a kind with a name is known where a part has the name
+pub kind_called : (h : Heap Part) (ns : List Named) (k : Kind Text) (name bytes : Text) (found : Option Part) → Some name ≡ name_in k → bytes ≡ name → found ≡ part_named ns bytes → unknown_kind (env_of h ns) None k ≡ unless (is_some found) Unknown
+kind_called h ns k name bytes found is same finds = by k.name is
+  where
+    by : (n : KindName Text) → Some name ≡ elim n [ Nameless ↦ None | EnvName ↦ None | Called m ↦ Some m ]
+        → elim n [ Nameless ↦ [] | EnvName ↦ [] | Called m ↦ unless (is_earlier_or_own (env_of h ns) None m) Unknown ] ≡ unless (is_some found) Unknown
+    by Nameless f = absurd (cc)
+    by EnvName f = absurd (cc)
+    by (Called m) f = let here : m ≡ name = cc in ap (λ b. unless b Unknown) (ap (is_known (env_of h ns)) here ∙ known_is h ns name bytes found same finds)

@@ -1,5 +1,5 @@
 -- What groups and labels of the code are to the definitions, and how a label is fitted part by part.
-use Rattle.std.proofs.Common.{◌≡◌, ℕ, suc, max, ◌+◌, ◌<◌, ◌≤◌, ◌≢◌, Bool, true, false, List, [], ◌∷◌, ◌++◌, cond, length, get_or, drop, map, find, bytes_eq, Option, Some, None, option_map, Vec, Global, refl, sym, ap, ◌∙◌, drop-cons, add-one, arith}
+use Rattle.std.proofs.Common.{◌≡◌, ℕ, zero, suc, max, ◌⊎◌, ⊎_elim, inl, inr, true≢false, ◌+◌, ◌<◌, ◌≤◌, ◌≢◌, Bool, true, false, List, [], ◌∷◌, ◌++◌, cond, length, get_or, drop, map, find, bytes_eq, Option, Some, None, option_map, Vec, Global, refl, sym, ap, ◌∙◌, drop-cons, add-one, arith}
 use Rattle.std.specs.List.{list_all}
 use Rattle.std.proofs.lemmas.Bool.{and_parts, true_from_ne_false}
 use Rattle.std.proofs.lemmas.List.{drop_all}
@@ -14,21 +14,22 @@ use Rattle.ir_laws.specs.declared.labels.KidForm.TheVariants.{OneOf, TypeOrConst
 use Rattle.ir_laws.specs.declared.labels.Part.{Part}
 use Rattle.ir_laws.specs.declared.labels.Part.TheVariants.{Fixed, ForGroup, AField, AKid}
 use Rattle.ir_laws.specs.Tree as tree
-use Rattle.ir_laws.specs.Tree.{Text}
+use Rattle.ir_laws.specs.Tree.{Text, Kind}
 use Rattle.ir_laws.specs.Word.{label_words}
 use Rattle.ir_laws.specs.Numeral.{name_of}
 use Rattle.ir_laws.specs.Label.{row}
 use Rattle.ir_laws.specs.Expression.{Expr, Exprs, Single, Group, NoExpr, ThenExpr, expr_list}
 use Rattle.ir_laws.specs.Form.{Form, let_form, one_term, two_terms}
-use Rattle.ir_laws.specs.Phrase.{Phrase, Phrases, Name, Labelled, NoPhrase, ThenPhrase, Fitted, phrase_of, phrases_of, phrases_in, fit, field_in, with_field, with_kid, labelled, written_word, begins, list_phrase, cons_phrase, bare_word, bare_or_name}
+use Rattle.ir_laws.specs.Phrase.{Phrase, Phrases, Name, Labelled, NoPhrase, ThenPhrase, Fitted, phrase_of, phrases_of, phrases_in, fit, or_else, bind_of, field_in, with_field, with_bind, with_kid, labelled, written_word, begins, list_phrase, cons_phrase, bare_word, bare_or_name}
 use Rattle.ir_script.specs.declared.expression.Expr as code
 use Rattle.ir_script.specs.declared.expression.Exprs as list
 use Rattle.ir_script.specs.declared.phrases.Phrase as seen
 use Rattle.ir_script.specs.declared.phrases.Field.{Field}
 use Rattle.ir_script.proofs.ExpressionLemmas.{expr_of-Group}
-use Rattle.ir_script.proofs.KidLemmas.{seen_labelled, labelled as label_of}
+use Rattle.ir_script.proofs.KidLemmas.{seen_labelled}
 use Rattle.ir_script.specs.Views.{expr_of, exprs_in, items_of}
-use Rattle.ir_script.specs.Phrases.{field_seen, phrase_seen, phrases_seen, is_built_field, is_built, are_built, labels_are_built, kid_in}
+use Rattle.ir_script.specs.declared.phrases.VariableKind.{VariableKind}
+use Rattle.ir_script.specs.Phrases.{field_seen, label_seen, bind_seen, phrase_seen, phrases_seen, is_built_field, is_built, are_built, labels_are_built, kid_in}
 
 -- ---- groups and labels
 
@@ -57,24 +58,32 @@ fields-none : (fs : List (tree.Field Text)) → fs ++ [] ≡ fs
 fields-none [] = refl
 fields-none (f ∷ fs) = ap (λ fs. f ∷ fs) (fields-none fs)
 
-abbrev fitted : List (tree.Field Text) → Phrases → Fitted
-fitted fields kids = record { fields = fields; bind = None; kids = kids }
+abbrev fitted : List (tree.Field Text) → Option (List (Kind Text)) → Phrases → Fitted
+fitted fields bind kids = record { fields = fields; bind = bind; kids = kids }
+
+-- what is bound, as the code has it
+abbrev pub Bind : Type 0
+Bind = Option (Vec VariableKind Global)
 
 -- what is fitted so far, before what the other parts give
-abbrev pub prefixed : List Field → List seen.Phrase → Option Fitted → Option Fitted
-prefixed fields kids None = None
-prefixed fields kids (Some r) = Some (record { fields = map field_seen fields ++ r.fields; bind = r.bind; kids = before kids r.kids })
+abbrev pub prefixed : List Field → Bind → List seen.Phrase → Option Fitted → Option Fitted
+prefixed fields bind kids None = None
+prefixed fields bind kids (Some r) = Some (fitted (map field_seen fields ++ r.fields) (or_else (bind_seen bind) r.bind) (before kids r.kids))
 
-prefixed-field : (fs : List Field) (ks : List seen.Phrase) (f : Field) (o : Option Fitted) → prefixed fs ks (with_field (Some (field_seen f)) o) ≡ prefixed (fs ++ f ∷ []) ks o
-prefixed-field fs ks f None = refl
-prefixed-field fs ks f (Some r) = ap (λ gs. Some (record { fields = gs; bind = r.bind; kids = before ks r.kids })) (sym (fields-last fs f r.fields))
+prefixed-field : (fs : List Field) (b : Bind) (ks : List seen.Phrase) (f : Field) (o : Option Fitted) → prefixed fs b ks (with_field (Some (field_seen f)) o) ≡ prefixed (fs ++ f ∷ []) b ks o
+prefixed-field fs b ks f None = refl
+prefixed-field fs b ks f (Some r) = ap (λ gs. Some (fitted gs (or_else (bind_seen b) r.bind) (before ks r.kids))) (sym (fields-last fs f r.fields))
 
-prefixed-kid : (fs : List Field) (ks : List seen.Phrase) (k : seen.Phrase) (o : Option Fitted) → prefixed fs ks (with_kid (Some (phrase_seen k)) o) ≡ prefixed fs (ks ++ k ∷ []) o
-prefixed-kid fs ks k None = refl
-prefixed-kid fs ks k (Some r) = ap (λ ps. Some (record { fields = map field_seen fs ++ r.fields; bind = r.bind; kids = ps })) (sym (before-last ks k r.kids))
+prefixed-bind : (fs : List Field) (b : Vec VariableKind Global) (ks : List seen.Phrase) (o : Option Fitted) → prefixed fs None ks (with_bind (bind_seen (Some b)) o) ≡ prefixed fs (Some b) ks o
+prefixed-bind fs b ks None = refl
+prefixed-bind fs b ks (Some r) = refl
 
-pub same-prefix : (fs new_fs : List Field) (ks new_ks : List seen.Phrase) (rest all : Option Fitted) → new_fs ≡ fs → new_ks ≡ ks → all ≡ prefixed fs ks rest → all ≡ prefixed new_fs new_ks rest
-same-prefix fs new_fs ks new_ks rest all e f so_far = so_far ∙ ap (λ fs. prefixed fs ks rest) (sym e) ∙ ap (λ ks. prefixed new_fs ks rest) (sym f)
+prefixed-kid : (fs : List Field) (b : Bind) (ks : List seen.Phrase) (k : seen.Phrase) (o : Option Fitted) → prefixed fs b ks (with_kid (Some (phrase_seen k)) o) ≡ prefixed fs b (ks ++ k ∷ []) o
+prefixed-kid fs b ks k None = refl
+prefixed-kid fs b ks k (Some r) = ap (λ ps. Some (fitted (map field_seen fs ++ r.fields) (or_else (bind_seen b) r.bind) ps)) (sym (before-last ks k r.kids))
+
+pub same-prefix : (fs new_fs : List Field) (b new_b : Bind) (ks new_ks : List seen.Phrase) (rest all : Option Fitted) → new_fs ≡ fs → new_b ≡ b → new_ks ≡ ks → all ≡ prefixed fs b ks rest → all ≡ prefixed new_fs new_b new_ks rest
+same-prefix fs new_fs b new_b ks new_ks rest all e f g so_far = so_far ∙ (λ i. prefixed (sym e i) (sym f i) (sym g i) rest)
 
 -- ---- one part of a label
 
@@ -98,6 +107,10 @@ with_field-none : (f : Option (tree.Field Text)) → with_field f None ≡ None
 with_field-none None = refl
 with_field-none (Some f) = refl
 
+with_bind-none : (b : Option (List (Kind Text))) → with_bind b None ≡ None
+with_bind-none None = refl
+with_bind-none (Some b) = refl
+
 with_kid-none : (k : Option Phrase) → with_kid k None ≡ None
 with_kid-none None = refl
 with_kid-none (Some k) = refl
@@ -105,20 +118,40 @@ with_kid-none (Some k) = refl
 both_suc : (es : List code.Expr) (parts : List Part) → suc (length es) ≢ suc (length parts) → length es ≢ length parts
 both_suc es parts n same = n (ap (λ k. suc k) same)
 
--- expressions that are not as many as the parts fit nothing
-pub fit-length : (items : List code.Expr) (parts : List Part) → are_built parts ≡ true → length items ≢ length parts → fit (exprs_in items) parts ≡ None
+fit-length : (items : List code.Expr) (parts : List Part) → list_all is_built parts ≡ true → length items ≢ length parts → fit (exprs_in items) parts ≡ None
 fit-length [] [] h n = absurd (n refl)
 fit-length [] (part ∷ parts) h n = refl
 fit-length (e ∷ es) [] h n = refl
 fit-length (e ∷ es) (Fixed word ∷ parts) h n = fit-length es parts h (both_suc es parts n)
 fit-length (e ∷ es) (ForGroup ∷ parts) h n = cc
 fit-length (e ∷ es) (AField form ∷ parts) h n =
-    fit-field (expr_of e) (exprs_in es) form parts (and_parts (is_built_field form) (are_built parts) h).0 ∙ ap (with_field (field_in form (expr_of e))) (fit-length es parts (and_parts (is_built_field form) (are_built parts) h).1 (both_suc es parts n)) ∙ with_field-none (field_in form (expr_of e))
+    let built = and_parts (is_built_field form) (list_all is_built parts) h in
+    fit-field (expr_of e) (exprs_in es) form parts built.0 ∙ ap (with_field (field_in form (expr_of e))) (fit-length es parts built.1 (both_suc es parts n)) ∙ with_field-none (field_in form (expr_of e))
 fit-length (e ∷ es) (AKid form ∷ parts) h n =
     fit-kid (expr_of e) (exprs_in es) form parts ∙ ap (with_kid (kid_in form (expr_of e))) (fit-length es parts h (both_suc es parts n)) ∙ with_kid-none (kid_in form (expr_of e))
 
-pub built_at : (parts : List Part) (i : ℕ) (part spare : Part) → are_built parts ≡ true → i < length parts → get_or parts i spare ≡ part → is_built part ≡ true
-built_at parts i part spare h lt is = true_from_ne_false (is_built part) (λ f. let none : are_built parts ≡ false = list_all_at is_built parts i spare lt (ap is_built is ∙ f) in cc)
+-- expressions that are not as many as the parts fit nothing
+pub fit-unequal : (items : List code.Expr) (parts : List Part) → are_built parts ≡ true → length items ≢ length parts → fit (exprs_in items) parts ≡ None
+fit-unequal [] (ForGroup ∷ parts) h n = refl
+fit-unequal (e ∷ es) (ForGroup ∷ parts) h n = ap (with_bind (bind_of (expr_of e))) (fit-length es parts h (both_suc es parts n)) ∙ with_bind-none (bind_of (expr_of e))
+fit-unequal items [] h n = fit-length items [] h n
+fit-unequal items (part ∷ parts) h n = fit-length items (part ∷ parts) h n
+
+each_built : (parts : List Part) (i : ℕ) (part spare : Part) → list_all is_built parts ≡ true → i < length parts → get_or parts i spare ≡ part → is_built part ≡ true
+each_built parts i part spare h lt is = true_from_ne_false (is_built part) (λ f. let none : list_all is_built parts ≡ false = list_all_at is_built parts i spare lt (ap is_built is ∙ f) in cc)
+
+-- a part is read, or it is a group that comes first
+built_at : (parts : List Part) (i : ℕ) (part spare : Part) → are_built parts ≡ true → i < length parts → get_or parts i spare ≡ part → ((part ≡ ForGroup) × (i ≡ 0)) ⊎ (is_built part ≡ true)
+built_at [] i part spare h lt is = absurd (omega arith)
+built_at (ForGroup ∷ parts) zero part spare h lt is = inl (sym is, refl)
+built_at (ForGroup ∷ parts) (suc i) part spare h lt is = inr (each_built parts i part spare h (omega arith) is)
+built_at (first ∷ parts) i part spare h lt is = inr (each_built (first ∷ parts) i part spare h lt is)
+
+pub field_built : (parts : List Part) (i : ℕ) (form : FieldForm) (spare : Part) → are_built parts ≡ true → i < length parts → get_or parts i spare ≡ AField form → is_built_field form ≡ true
+field_built parts i form spare h lt is = ⊎_elim (λ g. let none : AField form ≡ ForGroup = g.0 in absurd (cc)) (λ built. built) (built_at parts i (AField form) spare h lt is)
+
+pub group_leads : (parts : List Part) (i : ℕ) (spare : Part) → are_built parts ≡ true → i < length parts → get_or parts i spare ≡ ForGroup → i ≡ 0
+group_leads parts i spare h lt is = ⊎_elim (λ g. g.1) (λ built. absurd (true≢false (sym built))) (built_at parts i ForGroup spare h lt is)
 
 -- ---- a label's parts one by one
 
@@ -151,24 +184,40 @@ fit-at-field items parts i item form at h = fit-at items parts i item (AField fo
 fit-at-kid : (items : List code.Expr) (parts : List Part) (i : ℕ) (item : code.Expr) (form : KidForm) → At items parts i item (AKid form) → fit_from items parts i ≡ with_kid (kid_in form (expr_of item)) (fit_from items parts (i + 1))
 fit-at-kid items parts i item form at = fit-at items parts i item (AKid form) at ∙ fit-kid (expr_of item) (exprs_in (drop (i + 1) items)) form (drop (i + 1) parts)
 
-pub after-fixed : (items : List code.Expr) (parts : List Part) (i : ℕ) (item : code.Expr) (word : FixedWord) (fs : List Field) (ks : List seen.Phrase) (all : Option Fitted) → At items parts i item (Fixed word) → all ≡ prefixed fs ks (fit_from items parts i) → all ≡ prefixed fs ks (fit_from items parts (i + 1))
-after-fixed items parts i item word fs ks all at so_far = so_far ∙ ap (prefixed fs ks) (fit-at items parts i item (Fixed word) at)
+pub after-fixed : (items : List code.Expr) (parts : List Part) (i : ℕ) (item : code.Expr) (word : FixedWord) (fs : List Field) (b : Bind) (ks : List seen.Phrase) (all : Option Fitted) → At items parts i item (Fixed word) → all ≡ prefixed fs b ks (fit_from items parts i) → all ≡ prefixed fs b ks (fit_from items parts (i + 1))
+after-fixed items parts i item word fs b ks all at so_far = so_far ∙ ap (prefixed fs b ks) (fit-at items parts i item (Fixed word) at)
 
-pub after-field : (items : List code.Expr) (parts : List Part) (i : ℕ) (item : code.Expr) (form : FieldForm) (fs : List Field) (f : Field) (ks : List seen.Phrase) (all : Option Fitted) → At items parts i item (AField form) → is_built_field form ≡ true → Some (field_seen f) ≡ field_in form (expr_of item) → all ≡ prefixed fs ks (fit_from items parts i) → all ≡ prefixed (fs ++ f ∷ []) ks (fit_from items parts (i + 1))
-after-field items parts i item form fs f ks all at h is so_far =
-    so_far ∙ ap (prefixed fs ks) (fit-at-field items parts i item form at h ∙ ap (λ f. with_field f (fit_from items parts (i + 1))) (sym is)) ∙ prefixed-field fs ks f (fit_from items parts (i + 1))
+pub after-field : (items : List code.Expr) (parts : List Part) (i : ℕ) (item : code.Expr) (form : FieldForm) (fs : List Field) (f : Field) (b : Bind) (ks : List seen.Phrase) (all : Option Fitted) → At items parts i item (AField form) → is_built_field form ≡ true → Some (field_seen f) ≡ field_in form (expr_of item) → all ≡ prefixed fs b ks (fit_from items parts i) → all ≡ prefixed (fs ++ f ∷ []) b ks (fit_from items parts (i + 1))
+after-field items parts i item form fs f b ks all at h is so_far =
+    so_far ∙ ap (prefixed fs b ks) (fit-at-field items parts i item form at h ∙ ap (λ f. with_field f (fit_from items parts (i + 1))) (sym is)) ∙ prefixed-field fs b ks f (fit_from items parts (i + 1))
 
-pub after-kid : (items : List code.Expr) (parts : List Part) (i : ℕ) (item : code.Expr) (form : KidForm) (fs : List Field) (ks : List seen.Phrase) (k : seen.Phrase) (all : Option Fitted) → At items parts i item (AKid form) → Some (phrase_seen k) ≡ kid_in form (expr_of item) → all ≡ prefixed fs ks (fit_from items parts i) → all ≡ prefixed fs (ks ++ k ∷ []) (fit_from items parts (i + 1))
-after-kid items parts i item form fs ks k all at is so_far =
-    so_far ∙ ap (prefixed fs ks) (fit-at-kid items parts i item form at ∙ ap (λ k. with_kid k (fit_from items parts (i + 1))) (sym is)) ∙ prefixed-kid fs ks k (fit_from items parts (i + 1))
+-- an expression that is no such field
+pub no_field : (items : List code.Expr) (parts : List Part) (i : ℕ) (item : code.Expr) (form : FieldForm) (fs : List Field) (b : Bind) (ks : List seen.Phrase) (all : Option Fitted) → At items parts i item (AField form) → is_built_field form ≡ true → None ≡ field_in form (expr_of item) → all ≡ prefixed fs b ks (fit_from items parts i) → all ≡ None
+no_field items parts i item form fs b ks all at h is so_far =
+    so_far ∙ ap (prefixed fs b ks) (fit-at-field items parts i item form at h ∙ ap (λ f. with_field f (fit_from items parts (i + 1))) (sym is))
+
+-- a group, where none was before
+pub after-group : (items : List code.Expr) (parts : List Part) (i : ℕ) (item : code.Expr) (fs : List Field) (b : Bind) (kinds : Vec VariableKind Global) (ks : List seen.Phrase) (all : Option Fitted) → At items parts i item ForGroup → b ≡ None → bind_seen (Some kinds) ≡ bind_of (expr_of item) → all ≡ prefixed fs b ks (fit_from items parts i) → all ≡ prefixed fs (Some kinds) ks (fit_from items parts (i + 1))
+after-group items parts i item fs b kinds ks all at none is so_far =
+    so_far ∙ ap (λ b. prefixed fs b ks (fit_from items parts i)) none
+    ∙ ap (prefixed fs None ks) (fit-at items parts i item ForGroup at ∙ ap (λ b. with_bind b (fit_from items parts (i + 1))) (sym is))
+    ∙ prefixed-bind fs kinds ks (fit_from items parts (i + 1))
+
+pub after-kid : (items : List code.Expr) (parts : List Part) (i : ℕ) (item : code.Expr) (form : KidForm) (fs : List Field) (b : Bind) (ks : List seen.Phrase) (k : seen.Phrase) (all : Option Fitted) → At items parts i item (AKid form) → Some (phrase_seen k) ≡ kid_in form (expr_of item) → all ≡ prefixed fs b ks (fit_from items parts i) → all ≡ prefixed fs b (ks ++ k ∷ []) (fit_from items parts (i + 1))
+after-kid items parts i item form fs b ks k all at is so_far =
+    so_far ∙ ap (prefixed fs b ks) (fit-at-kid items parts i item form at ∙ ap (λ k. with_kid k (fit_from items parts (i + 1))) (sym is)) ∙ prefixed-kid fs b ks k (fit_from items parts (i + 1))
 
 -- behind the last part
-fit-end : (items : List code.Expr) (parts : List Part) (i : ℕ) → length items ≤ i → length parts ≤ i → fit_from items parts i ≡ Some (fitted [] NoPhrase)
+fit-end : (items : List code.Expr) (parts : List Part) (i : ℕ) → length items ≤ i → length parts ≤ i → fit_from items parts i ≡ Some (fitted [] None NoPhrase)
 fit-end items parts i h k = ap (λ es. fit (exprs_in es) (drop i parts)) (drop_all i items h) ∙ ap (fit NoExpr) (drop_all i parts k)
 
-pub all-fitted : (items : List code.Expr) (parts : List Part) (i : ℕ) (fs : List Field) (ks : List seen.Phrase) (all : Option Fitted) → length items ≤ i → length parts ≤ i → all ≡ prefixed fs ks (fit_from items parts i) → all ≡ Some (fitted (map field_seen fs) (phrases_seen ks))
-all-fitted items parts i fs ks all h k so_far =
-    so_far ∙ ap (prefixed fs ks) (fit-end items parts i h k) ∙ ap (λ gs. Some (fitted gs (before ks NoPhrase))) (fields-none (map field_seen fs)) ∙ ap (λ ps. Some (fitted (map field_seen fs) ps)) (before-none ks)
+bind-none : (b : Option (List (Kind Text))) → or_else b None ≡ b
+bind-none None = refl
+bind-none (Some b) = refl
+
+pub all-fitted : (items : List code.Expr) (parts : List Part) (i : ℕ) (fs : List Field) (b : Bind) (ks : List seen.Phrase) (all : Option Fitted) → length items ≤ i → length parts ≤ i → all ≡ prefixed fs b ks (fit_from items parts i) → all ≡ Some (fitted (map field_seen fs) (bind_seen b) (phrases_seen ks))
+all-fitted items parts i fs b ks all h k so_far =
+    so_far ∙ ap (prefixed fs b ks) (fit-end items parts i h k) ∙ (λ i. Some (fitted (fields-none (map field_seen fs) i) (bind-none (bind_seen b) i) (before-none ks i)))
 
 -- ---- lists of terms
 
@@ -193,11 +242,11 @@ pub list_read : (w : Word) (item : code.Expr) (group : list.Exprs) (items : List
 list_read w item group items phrases is same read = ap (list_phrase w) (read ∙ ap phrases_in (group_is item group items is same))
 
 -- a label with no field
-pub fieldless : (w : Word) (fields : Vec Field Global) (kids : Vec seen.Phrase Global) → fields.items ≡ [] → phrase_seen (seen.Labelled w fields kids) ≡ Labelled (label_of w []) None (phrases_seen kids.items)
-fieldless w fields kids none = seen_labelled w fields kids ∙ ap (λ fields. Labelled (label_of w fields) None (phrases_seen kids.items)) none
+pub fieldless : (w : Word) (fields : Vec Field Global) (kids : Vec seen.Phrase Global) → fields.items ≡ [] → phrase_seen (seen.Labelled w fields None kids) ≡ Labelled (label_seen w []) None (phrases_seen kids.items)
+fieldless w fields kids none = seen_labelled w fields None kids ∙ ap (λ fields. Labelled (label_seen w fields) None (phrases_seen kids.items)) none
 
-pub all-labelled : (w : Word) (fields : Vec Field Global) (kids : Vec seen.Phrase Global) (all : Option Fitted) → all ≡ Some (fitted (map field_seen fields.items) (phrases_seen kids.items)) → Some (phrase_seen (seen.Labelled w fields kids)) ≡ labelled w all
-all-labelled w fields kids all is = ap Some (seen_labelled w fields kids) ∙ ap (labelled w) (sym is)
+pub all-labelled : (w : Word) (fields : Vec Field Global) (b : Bind) (kids : Vec seen.Phrase Global) (all : Option Fitted) → all ≡ Some (fitted (map field_seen fields.items) (bind_seen b) (phrases_seen kids.items)) → Some (phrase_seen (seen.Labelled w fields b kids)) ≡ labelled w all
+all-labelled w fields b kids all is = ap Some (seen_labelled w fields b kids) ∙ ap (labelled w) (sym is)
 
 -- ---- the words of labels
 
@@ -235,10 +284,10 @@ by_word bytes es word e is begun = ap (λ w. elim w as (λ w. Option Phrase) [ S
 
 -- ---- bare labels and names
 
-pub bare-seen : (w : Word) (fields : Vec Field Global) (kids : Vec seen.Phrase Global) (text : Text) → fields.items ≡ [] → kids.items ≡ [] → Some w ≡ bare_word text → Some (phrase_seen (seen.Labelled w fields kids)) ≡ bare_or_name text
+pub bare-seen : (w : Word) (fields : Vec Field Global) (kids : Vec seen.Phrase Global) (text : Text) → fields.items ≡ [] → kids.items ≡ [] → Some w ≡ bare_word text → Some (phrase_seen (seen.Labelled w fields None kids)) ≡ bare_or_name text
 bare-seen w fields kids text none no_kids is =
-    ap Some (fieldless w fields kids none ∙ ap (λ kids. Labelled (label_of w []) None (phrases_seen kids)) no_kids)
-    ∙ ap (λ w. elim w as (λ w. Option Phrase) [ Some w ↦ Some (Labelled (label_of w []) None NoPhrase) | None ↦ option_map Name (name_of text) ]) is
+    ap Some (fieldless w fields kids none ∙ ap (λ kids. Labelled (label_seen w []) None (phrases_seen kids)) no_kids)
+    ∙ ap (λ w. elim w as (λ w. Option Phrase) [ Some w ↦ Some (Labelled (label_seen w []) None NoPhrase) | None ↦ option_map Name (name_of text) ]) is
 
 -- ---- forms
 

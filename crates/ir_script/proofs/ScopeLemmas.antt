@@ -11,7 +11,6 @@ use Rattle.ir_laws.specs.Environment.{term_named, with_term}
 use Rattle.ir_laws.specs.Heap.{Heap, Grows, tree_of}
 use Rattle.ir_laws.specs.Tree.{Text}
 use Rattle.ir_script.specs.Scope.{Named, part_named, term_in, named_only, env_of, IsTerm, AreTerms}
-use Rattle.ir_script.specs.Plain.{is_plain}
 
 -- ---- a look-up by bytes
 
@@ -62,7 +61,6 @@ module _ (h k : Heap Part) (grows : Grows h k) where
       let same = grows.tree q t.live in
       record {
         live = grows.live q t.live;
-        plain = ap is_plain same ∙ t.plain;
         sort = ap sort_of same ∙ t.sort;
         kind = t.kind;
       }

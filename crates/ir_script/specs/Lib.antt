@@ -7,5 +7,4 @@ pub mod Wanted
 pub mod Makeable
 pub mod Built
 pub mod Answered
-pub mod Plain
 pub mod Scope

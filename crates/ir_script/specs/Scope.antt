@@ -1,16 +1,16 @@
 -- The names that earlier lines declare, and what they mean over a heap.
-use Rattle.std.specs.Prelude.{◌≡◌, true, ◌||◌, List, [], map, find, Option, bytes_eq}
+use Rattle.std.specs.Prelude.{◌≡◌, true, List, [], ◌∷◌, map, find, Option, bytes_eq}
 use Rattle.std.specs.Option.{option_map}
 use Rattle.ir_core.specs.declared.handles.Part.{Part}
-use Rattle.ir_laws.specs.declared.labels.Sort.TheVariants.{OfType, OfRegion}
+use Rattle.ir_laws.specs.declared.labels.Sort.{Sort}
+use Rattle.ir_laws.specs.declared.labels.Sort.TheVariants.{OfType, OfRegion, OfConstant, OfPattern, OfPredicate}
 use Rattle.ir_laws.specs.Counts.{sort_of}
 use Rattle.ir_laws.specs.Environment.{Environment, NamedTerm}
 use Rattle.ir_laws.specs.Heap.{Heap, Each, IsLive, tree_of}
-use Rattle.ir_laws.specs.Same.{same_sort}
+use Rattle.ir_laws.specs.Sorts.{is_sort_among}
 use Rattle.ir_laws.specs.Tree.{Text}
 use Rattle.ir_table.specs.Fits.{part_sort}
 use Rattle.ir_script.specs.declared.scope.Scope.{Scope}
-use Rattle.ir_script.specs.Plain.{is_plain}
 
 -- a name and the part that it stands for
 abbrev pub Named : Type 0
@@ -36,12 +36,15 @@ named_only ts = record { items = []; terms = ts }
 abbrev pub env_of : Heap Part → List Named → Environment
 env_of h ns = named_only (map (term_in h) ns)
 
--- the part is live, and stands for a type or a region in which nothing is bound
+-- the sorts that an operand may have
+abbrev pub operand_sorts : List Sort
+operand_sorts = OfType ∷ OfRegion ∷ OfConstant ∷ OfPattern ∷ OfPredicate ∷ []
+
+-- the part is live, and stands for a term that may be an operand
 pub record IsTerm (h : Heap Part) (q : Part) : Type 0 where
   pub live : IsLive h q
-  pub plain : is_plain (tree_of h q) ≡ true
   pub sort : sort_of (tree_of h q) ≡ part_sort q
-  pub kind : (same_sort (part_sort q) OfType || same_sort (part_sort q) OfRegion) ≡ true
+  pub kind : is_sort_among operand_sorts (part_sort q) ≡ true
 
 -- so does each name's
 abbrev pub AreTerms : Heap Part → List Named → Type 0

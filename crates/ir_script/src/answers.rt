@@ -1,6 +1,6 @@
 //! What a script answers.
 ghost use Rattle.ir_laws.specs.Answer.{IsValid, Allows, Lines, answer as answer_of};
-ghost use Rattle.ir_laws.specs.Form.{Let, Print, Same, form_of};
+ghost use Rattle.ir_laws.specs.Form.{Flags, Let, Print, Same, form_of};
 ghost use Rattle.ir_laws.specs.Formed.{is_formed};
 ghost use Rattle.ir_laws.specs.Held.{HoldsJust};
 ghost use Rattle.ir_laws.specs.Limits.{capped};
@@ -18,6 +18,7 @@ ghost use Rattle.ir_laws.specs.declared.labels.Sort.TheVariants.{OfList};
 use crate::build::build;
 use crate::causes::{Cause, ScriptError};
 use crate::expression::expressions;
+use crate::flags::write_flags;
 use crate::grammar::form_of_items;
 use crate::lines::line_end;
 use crate::names::unknown_name;
@@ -25,7 +26,7 @@ use crate::phrases::{Form, Phrase};
 use crate::places::{have_one_sort, misfit};
 use crate::scope::Scope;
 use ir_core::{AnyTerm, Limits, Part, Text};
-use ir_table::{Interner, NoNames, spell};
+use ir_table::{Cached, Interner, NoNames, spell, variables_are_listed};
 use std::alloc::Global;
 
 #[cfg(test)]
@@ -81,6 +82,9 @@ fn declare(
         Ok(part) => part,
         Err(error) => return Err(Cause::from(error)),
     };
+    if !variables_are_listed(alloc, cx, part)? {
+        return Err(Cause::Unlisted);
+    }
     scope.declare(alloc, name.as_bytes(), part)?;
     Ok(())
 }
@@ -111,7 +115,10 @@ fn print(
         Ok(part) => part,
         Err(error) => return Err(Cause::from(error)),
     };
-    if cx.size_of(part) > limits.size.min(LARGEST) {
+    if !variables_are_listed(alloc, cx, part)? {
+        return Err(Cause::Unlisted);
+    }
+    if part.size(cx) > limits.size.min(LARGEST) {
         return Err(Cause::TooLarge);
     }
     spell(alloc, cx, &NoNames, term_of(part), out)?;
@@ -161,7 +168,44 @@ fn same(
         Ok(part) => part,
         Err(error) => return Err(Cause::from(error)),
     };
+    if !variables_are_listed(alloc, cx, one)? {
+        return Err(Cause::Unlisted);
+    }
+    if !variables_are_listed(alloc, cx, other)? {
+        return Err(Cause::Unlisted);
+    }
     out.append(yes_or_no(one, other))?;
+    Ok(())
+}
+
+// The line of `flags`.
+fn flags(
+    alloc: Global,
+    cx: &mut Interner,
+    scope: &Scope,
+    phrase: &Phrase,
+    out: &mut Text,
+) -> Result<(), Cause>
+    requires formed { is_formed (phrase_seen phrase.now) ≡ true }
+    requires terms { AreTerms (heap cx.old) (names_in scope.now) }
+    ensures answers { (held : List Term) → HoldsJust (heap cx.old) held → AnswersForm (capped (state cx.old).limits) (Some (Flags (phrase_seen phrase.now))) (left_by (heap cx.old) (names_in scope.now) held) out.old out.new (heap cx.new) (names_in scope.now) result }
+    ensures terms { OnOk result (AreTerms (heap cx.new) (names_in scope.now)) }
+    ensures limits { (state cx.new).limits ≡ (state cx.old).limits }
+{
+    if unknown_name(scope, phrase) {
+        return Err(Cause::Unknown);
+    }
+    if let Some(cause) = misfit(scope, phrase) {
+        return Err(cause);
+    }
+    let part = match build(alloc, cx, scope, phrase) {
+        Ok(part) => part,
+        Err(error) => return Err(Cause::from(error)),
+    };
+    if !variables_are_listed(alloc, cx, part)? {
+        return Err(Cause::Unlisted);
+    }
+    write_flags(alloc, cx, part, out)?;
     Ok(())
 }
 
@@ -189,6 +233,7 @@ fn answer_line(
         Some(Form::Let(name, phrase)) => declare(alloc, cx, scope, &name, &phrase),
         Some(Form::Print(phrase)) => print(alloc, cx, scope, limits, &phrase, out),
         Some(Form::Same(first, second)) => same(alloc, cx, scope, &first, &second, out),
+        Some(Form::Flags(phrase)) => flags(alloc, cx, scope, &phrase, out),
     }
 }
 

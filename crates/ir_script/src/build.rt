@@ -1,23 +1,37 @@
 //! The making of terms: from phrases to parts of an interner.
 ghost use Rattle.ir_core.specs.declared.handles.Part.TheVariants as part;
-ghost use Rattle.ir_laws.specs.Environment.{field_in};
+ghost use Rattle.ir_laws.specs.Environment.{field_in, kind_in};
 ghost use Rattle.ir_laws.specs.Heap.{Each};
 ghost use Rattle.ir_laws.specs.Phrase.{Labelled, NoPhrase, each_of};
 ghost use Rattle.ir_laws.specs.declared.labels.Sort.TheVariants.{OfType};
-ghost use Rattle.ir_script.specs.Built.{Builds, BuildsAll};
+ghost use Rattle.ir_script.specs.Built.{Binds, Builds, BuildsAll};
 ghost use Rattle.ir_script.specs.Causes.{no_names};
-ghost use Rattle.ir_script.specs.Makeable.{is_buildable};
-ghost use Rattle.ir_script.specs.Phrases.{field_seen, phrase_seen, phrases_seen};
+ghost use Rattle.ir_script.specs.Makeable.{
+  is_buildable,
+  is_nameless,
+  is_nameless_bind,
+  is_nameless_field,
+};
+ghost use Rattle.ir_script.specs.Phrases.{
+  bind_seen,
+  field_seen,
+  kind_seen,
+  phrase_seen,
+  phrases_seen,
+};
 ghost use Rattle.ir_script.specs.Scope.{AreTerms, env_of, names_in};
 ghost use Rattle.ir_table.specs.Fits.{part_sort};
 ghost use Rattle.ir_table.specs.Interner.{heap, state};
 ghost use Rattle.ir_table.specs.Kinds as table;
+ghost use Rattle.ir_table.specs.Kinds.{variable_seen};
 ghost use Rattle.std.specs.List.{list_all};
 ghost use Rattle.std.specs.Prelude.{◌≡◌, [], true, Some, Err, map as mapped, IfOk, OnErr};
 
-use crate::phrases::{Field, Phrase};
+use crate::phrases::{Field, Phrase, VariableKind};
 use crate::scope::Scope;
-use ir_core::{Part, R, TermError, Ty, Tys};
+use ir_core::{
+    BoundRegionKind, BoundTyKind, BoundVarKind, BoundVarKinds, Part, R, TermError, Ty, Tys,
+};
 use ir_laws::Word;
 use ir_table::{Handle, InternList, Interner, kind_of};
 use std::alloc::Global;
@@ -38,16 +52,70 @@ fn types_of(alloc: Global, parts: &[Part]) -> R<Vec<Ty>>
     Ok(types)
 }
 
-/// The fields as the interner has them.
+// The variable of this kind. It has no name, since no item is declared.
+fn variable_of(kind: &VariableKind) -> BoundVarKind
+    requires { is_nameless (kind_seen kind.now) ≡ true }
+    ensures { kind_in no_names (kind_seen kind.now) ≡ Some (variable_seen result) }
+{
+    match kind {
+        VariableKind::Type(_) => BoundVarKind::Ty(BoundTyKind::Anon),
+        VariableKind::Region(_) => BoundVarKind::Region(BoundRegionKind::Anon),
+        VariableKind::Environment => BoundVarKind::Region(BoundRegionKind::ClosureEnv),
+        VariableKind::Constant => BoundVarKind::Const,
+    }
+}
+
+// The variables of these kinds.
+fn variables_of(alloc: Global, kinds: &[VariableKind]) -> R<Vec<BoundVarKind>>
+    requires { list_all is_nameless (mapped kind_seen kinds.now) ≡ true }
+    ensures variables { IfOk result (λ vs. each_of (kind_in no_names) (mapped kind_seen kinds.now) ≡ Some (mapped variable_seen vs.items)) }
+    ensures err { OnErr result (result ≡ Err TermError.Memory) }
+{
+    let mut variables = Vec::new(alloc);
+    for kind in kinds {
+        variables.push(variable_of(kind))?;
+    }
+    Ok(variables)
+}
+
+// The list of what a label binds, where it may bind something.
+fn binder_of(
+    alloc: Global,
+    cx: &mut Interner,
+    bind: &Option<Vec<VariableKind>>,
+) -> R<Option<BoundVarKinds>>
+    requires { is_nameless_bind (bind_seen bind.now) ≡ true }
+    ensures { Binds (state cx.old) (state cx.new) (bind_seen bind.now) result }
+{
+    let Some(kinds) = bind else {
+        return Ok(None);
+    };
+    let variables = variables_of(alloc, kinds)?;
+    let list = BoundVarKinds::new_from_slice(cx, &variables)?;
+    Ok(Some(list))
+}
+
+// The field as the interner has it.
+fn field_of(field: &Field) -> ir_table::Field
+    requires { is_nameless_field (field_seen field.now) ≡ true }
+    ensures { field_in no_names (field_seen field.now) ≡ Some (table.field_seen result) }
+{
+    match field {
+        Field::Chosen(word) => ir_table::Field::Chosen(*word),
+        Field::Number(number) => ir_table::Field::Number(*number),
+        Field::OfKind(kind) => ir_table::Field::OfKind(variable_of(kind)),
+    }
+}
+
+// The fields as the interner has them.
 fn fields_of(alloc: Global, fields: &[Field]) -> R<Vec<ir_table::Field>>
+    requires { list_all is_nameless_field (mapped field_seen fields.now) ≡ true }
     ensures fields { IfOk result (λ fs. each_of (field_in no_names) (mapped field_seen fields.now) ≡ Some (mapped table.field_seen fs.items)) }
     ensures err { OnErr result (result ≡ Err TermError.Memory) }
 {
     let mut seen = Vec::new(alloc);
     for field in fields {
-        match field {
-            Field::Chosen(word) => seen.push(ir_table::Field::Chosen(*word))?,
-        }
+        seen.push(field_of(field))?;
     }
     Ok(seen)
 }
@@ -59,9 +127,9 @@ pub(crate) fn build(alloc: Global, cx: &mut Interner, scope: &Scope, phrase: &Ph
     requires terms { AreTerms (heap cx.old) (names_in scope.now) }
     ensures { Builds (env_of (heap cx.old) (names_in scope.now)) (names_in scope.now) (state cx.old) (state cx.new) (phrase_seen phrase.now) result }
 {
-    let (word, fields, kids) = match phrase {
+    let (word, fields, bind, kids) = match phrase {
         Phrase::Name(name) => return Ok(scope.find(name.as_bytes()).unwrap()),
-        Phrase::Labelled(word, fields, kids) => (word, fields, kids),
+        Phrase::Labelled(word, fields, bind, kids) => (word, fields, bind, kids),
     };
     let parts = build_all(alloc, cx, scope, kids)?;
     match word {
@@ -72,7 +140,8 @@ pub(crate) fn build(alloc: Global, cx: &mut Interner, scope: &Scope, phrase: &Ph
         }
         _ => {
             let seen = fields_of(alloc, fields)?;
-            cx.part_of(kind_of(*word, &seen, &parts))
+            let binder = binder_of(alloc, cx, bind)?;
+            cx.part_of(kind_of(*word, &seen, binder, &parts))
         }
     }
 }
@@ -110,7 +179,7 @@ mod tests {
     fn node(word: Word, fields: Vec<Field>, kids: Vec<Phrase>) -> Phrase
         ensures { phrase_seen result ≡ Labelled (record { word = word; fields = mapped field_seen fields.items }) None (phrases_seen kids.items) }
     {
-        Phrase::Labelled(word, fields, kids)
+        Phrase::Labelled(word, fields, None, kids)
     }
 
     fn leaf(alloc: Global, word: Word) -> Phrase

@@ -1,11 +1,11 @@
 //! From expressions to terms and forms, by the table of labels.
 ghost use Rattle.ir_laws.specs.Expression.{expr_list};
 ghost use Rattle.ir_laws.specs.Form as form;
-ghost use Rattle.ir_laws.specs.Form.{form_of_exprs, let_form as let_read, one_term, two_terms};
+ghost use Rattle.ir_laws.specs.Form.{Form as FormOf, form_begun, form_of_exprs, let_form as let_read, one_term, two_terms};
 ghost use Rattle.ir_laws.specs.Keyword.{choice_words, keyword_text};
 ghost use Rattle.ir_laws.specs.Label.{row};
-ghost use Rattle.ir_laws.specs.Numeral.{each, is_name, is_name_byte, is_name_start};
 ghost use Rattle.ir_laws.specs.Phrase.{
+  Phrase as PhraseRead,
   bare_or_name,
   bare_word,
   begins,
@@ -20,7 +20,9 @@ ghost use Rattle.ir_laws.specs.Phrase.{
 };
 ghost use Rattle.ir_script.specs.Phrases.{
   are_built,
+  commands,
   field_seen,
+  form_row,
   form_seen,
   is_built_field,
   kid_in,
@@ -32,47 +34,11 @@ ghost use Rattle.std.specs.Prelude.{◌≡◌, bytes_eq, find, option_map, Err, 
 
 use crate::expression::Expr;
 use crate::phrases::{Field, Form, Phrase};
-use ir_core::{R, TermError, Text};
+use crate::variables::{bind_of, kind_of, region_kind_of};
+use crate::words::{name_of, number_of};
+use ir_core::{R, TermError};
 use ir_laws::{Choice, FieldForm, Keyword, KidForm, LABEL_WORDS, Part, Word};
 use std::alloc::Global;
-
-/// The most bytes of a name.
-const NAME_BYTES: usize = 64;
-
-fn is_name_start(byte: u8) -> bool
-    ensures { result ≡ is_name_start byte }
-{
-    byte.is_ascii_uppercase() || byte == b'_'
-}
-
-fn is_name_byte(byte: u8) -> bool
-    ensures { result ≡ is_name_byte byte }
-{
-    is_name_start(byte) || byte.is_ascii_lowercase() || byte.is_ascii_digit()
-}
-
-fn are_name_bytes(text: &[u8]) -> bool
-    ensures { result ≡ each is_name_byte text.now }
-{
-    for byte in text {
-        if !is_name_byte(*byte) {
-            return false;
-        }
-    }
-    true
-}
-
-/// Whether the text is a capital or `_`, and then letters, digits and `_`, of 64 bytes at most.
-pub(crate) fn is_name(text: &[u8]) -> bool
-    ensures { result ≡ is_name text.now }
-{
-    match text.split_first() {
-        Some((first, rest)) => {
-            is_name_start(*first) && are_name_bytes(rest) && text.len() <= NAME_BYTES
-        }
-        None => false,
-    }
-}
 
 /// The label that is written as this word alone.
 fn bare_word(text: &[u8]) -> Option<Word>
@@ -118,15 +84,21 @@ fn keyword_of(choice: Choice, text: &[u8]) -> Option<Keyword>
 }
 
 /// The expression as a field of this form.
-fn field_in(form: FieldForm, item: &Expr) -> Option<Field>
+fn field_in(alloc: Global, form: FieldForm, item: &Expr) -> R<Option<Field>>
     requires { IsTrue (is_built_field form) }
-    ensures { option_map field_seen result ≡ field_in form (expr_of item.now) }
+    ensures read { IfOk result (λ o. option_map field_seen o ≡ field_in form (expr_of item.now)) }
+    ensures err { OnErr result (result ≡ Err TermError.Memory) }
 {
-    match (form, item) {
-        (FieldForm::OneWordOf(choice), Expr::Word(text)) => {
-            keyword_of(choice, text.as_bytes()).map(Field::Chosen)
-        }
-        _ => None,
+    let Expr::Word(word) = item else {
+        return Ok(None);
+    };
+    let text = word.as_bytes();
+    match form {
+        FieldForm::OneWordOf(choice) => Ok(keyword_of(choice, text).map(Field::Chosen)),
+        FieldForm::ANumber => Ok(number_of(text).map(Field::Number)),
+        FieldForm::AVariableKind => Ok(kind_of(alloc, text)?.map(Field::OfKind)),
+        FieldForm::ARegionKind => Ok(region_kind_of(alloc, text)?.map(Field::OfKind)),
+        _ => Ok(None),
     }
 }
 
@@ -136,14 +108,13 @@ fn bare_or_name(alloc: Global, text: &[u8]) -> R<Option<Phrase>>
     ensures err { OnErr result (result ≡ Err TermError.Memory) }
 {
     if let Some(word) = bare_word(text) {
-        let label = Phrase::Labelled(word, Vec::new(alloc), Vec::new(alloc));
+        let label = Phrase::Labelled(word, Vec::new(alloc), None, Vec::new(alloc));
         return Ok(Some(label));
     }
-    if !is_name(text) {
-        return Ok(None);
+    match name_of(alloc, text)? {
+        Some(name) => Ok(Some(Phrase::Name(name))),
+        None => Ok(None),
     }
-    let name = Text::from_bytes(alloc, text)?;
-    Ok(Some(Phrase::Name(name)))
 }
 
 /// The expression as a term: a bare label, a name, or a label in brackets with its parts.
@@ -180,11 +151,16 @@ fn labelled(alloc: Global, word: Word, items: &[Expr]) -> R<Option<Phrase>>
         return Ok(None);
     }
     let mut fields = Vec::new(alloc);
+    let mut bind = None;
     let mut kids = Vec::new(alloc);
     for (index, part) in parts.iter().enumerate() {
         match part {
             Part::Fixed(_) => {}
-            Part::AField(form) => match field_in(*form, &items[index]) {
+            Part::ForGroup => match bind_of(alloc, &items[index])? {
+                Some(kinds) => bind = Some(kinds),
+                None => return Ok(None),
+            },
+            Part::AField(form) => match field_in(alloc, *form, &items[index])? {
                 Some(field) => fields.push(field)?,
                 None => return Ok(None),
             },
@@ -192,11 +168,9 @@ fn labelled(alloc: Global, word: Word, items: &[Expr]) -> R<Option<Phrase>>
                 Some(kid) => kids.push(kid)?,
                 None => return Ok(None),
             },
-            // no label of the grammar binds variables yet
-            Part::ForGroup => return Ok(None),
         }
     }
-    Ok(Some(Phrase::Labelled(word, fields, kids)))
+    Ok(Some(Phrase::Labelled(word, fields, bind, kids)))
 }
 
 /// The expression as a kid of this form.
@@ -222,7 +196,7 @@ fn list_in(alloc: Global, list: Word, item: &Expr) -> R<Option<Phrase>>
         return Ok(None);
     };
     match phrases_of_items(alloc, group.as_slice())? {
-        Some(phrases) => Ok(Some(Phrase::Labelled(list, Vec::new(alloc), phrases))),
+        Some(phrases) => Ok(Some(Phrase::Labelled(list, Vec::new(alloc), None, phrases))),
         None => Ok(None),
     }
 }
@@ -243,18 +217,15 @@ fn phrases_of_items(alloc: Global, items: &[Expr]) -> R<Option<Vec<Phrase>>>
     Ok(Some(phrases))
 }
 
-/// The form `print TERM`, behind its first word.
-fn print_form(alloc: Global, items: &[Expr]) -> R<Option<Form>>
-    ensures read { IfOk result (λ o. option_map form_seen o ≡ one_term form.Print (expr_list (exprs_in items.now))) }
+/// The term of a form of one term, behind its first word.
+fn one_term(alloc: Global, items: &[Expr]) -> R<Option<Phrase>>
+    ensures read { (make : PhraseRead → FormOf PhraseRead) → IfOk result (λ o. option_map (λ p. make (phrase_seen p)) o ≡ one_term make (expr_list (exprs_in items.now))) }
     ensures err { OnErr result (result ≡ Err TermError.Memory) }
 {
     if items.len() != 1 {
         return Ok(None);
     }
-    match phrase_of_expr(alloc, &items[0])? {
-        Some(phrase) => Ok(Some(Form::Print(phrase))),
-        None => Ok(None),
-    }
+    phrase_of_expr(alloc, &items[0])
 }
 
 /// The form `let NAME TERM`, behind its first word.
@@ -268,10 +239,9 @@ fn let_form(alloc: Global, items: &[Expr]) -> R<Option<Form>>
     let Expr::Word(word) = &items[0] else {
         return Ok(None);
     };
-    if !is_name(word.as_bytes()) {
+    let Some(name) = name_of(alloc, word.as_bytes())? else {
         return Ok(None);
-    }
-    let name = Text::from_bytes(alloc, word.as_bytes())?;
+    };
     match phrase_of_expr(alloc, &items[1])? {
         Some(phrase) => Ok(Some(Form::Let(name, phrase))),
         None => Ok(None),
@@ -295,6 +265,55 @@ fn same_form(alloc: Global, items: &[Expr]) -> R<Option<Form>>
     }
 }
 
+/// A form, by the word that begins it.
+#[derive(Clone, Copy, PartialEq, Eq, Debug)]
+enum Command {
+    Let,
+    Print,
+    Same,
+    Flags,
+}
+
+/// The forms that the grammar knows so far.
+const COMMANDS: [Command; 4] = [Command::Let, Command::Print, Command::Same, Command::Flags];
+
+impl Command {
+    fn text(self) -> &'static [u8]
+        ensures { result.now ≡ (form_row self).text }
+    {
+        match self {
+            Command::Let => b"let",
+            Command::Print => b"print",
+            Command::Same => b"same",
+            Command::Flags => b"flags",
+        }
+    }
+}
+
+/// The form that this word begins.
+fn command_of(word: &[u8]) -> Option<Command>
+    ensures { result ≡ find (λ command. bytes_eq (form_row command).text word.now) commands }
+{
+    COMMANDS
+        .iter()
+        .copied()
+        .find(|command| command.text() == word)
+}
+
+/// The form that this word begins, of the expressions behind it.
+fn form_begun(alloc: Global, word: &[u8], items: &[Expr]) -> R<Option<Form>>
+    ensures read { IfOk result (λ o. option_map form_seen o ≡ form_begun word.now (expr_list (exprs_in items.now))) }
+    ensures err { OnErr result (result ≡ Err TermError.Memory) }
+{
+    match command_of(word) {
+        Some(Command::Let) => let_form(alloc, items),
+        Some(Command::Print) => Ok(one_term(alloc, items)?.map(Form::Print)),
+        Some(Command::Same) => same_form(alloc, items),
+        Some(Command::Flags) => Ok(one_term(alloc, items)?.map(Form::Flags)),
+        None => Ok(None),
+    }
+}
+
 /// The form of a line's expressions; none where they have no form of the grammar.
 pub(crate) fn form_of_items(alloc: Global, items: &[Expr]) -> R<Option<Form>>
     ensures read { IfOk result (λ o. option_map form_seen o ≡ form_of_exprs (expr_list (exprs_in items.now))) }
@@ -302,12 +321,7 @@ pub(crate) fn form_of_items(alloc: Global, items: &[Expr]) -> R<Option<Form>>
 {
     match items.split_first() {
         None => Ok(Some(Form::Blank)),
-        Some((Expr::Word(word), rest)) => match word.as_bytes() {
-            b"let" => let_form(alloc, rest),
-            b"print" => print_form(alloc, rest),
-            b"same" => same_form(alloc, rest),
-            _ => Ok(None),
-        },
+        Some((Expr::Word(word), rest)) => form_begun(alloc, word.as_bytes(), rest),
         Some((Expr::Group(_), _)) => Ok(None),
     }
 }
@@ -316,6 +330,7 @@ pub(crate) fn form_of_items(alloc: Global, items: &[Expr]) -> R<Option<Form>>
 mod tests {
     use super::*;
     use crate::expression::Exprs;
+    use ir_core::Text;
     use std::test::Fail;
 
     // Expressions from bytes, for the tests alone: words, and groups in brackets.
@@ -340,16 +355,21 @@ mod tests {
         Ok(true)
     }
 
-    // The form of a line whose words and brackets are set apart by single spaces: `-` none, `b` blank, `l` let, `p` print, `s` same.
-    fn form_letter(alloc: Global, line: &[u8]) -> R<u8> {
+    // The expressions of a line whose words and brackets are set apart by single spaces.
+    fn items_of(alloc: Global, line: &[u8]) -> R<Option<Exprs>> {
         let mut stack = Vec::new(alloc);
         stack.push(Exprs::new(alloc))?;
         for word in line.split(|byte| *byte == b' ') {
             if !word.is_empty() && !put(alloc, &mut stack, word)? {
-                return Ok(b'?');
+                return Ok(None);
             }
         }
-        let Some(items) = stack.pop() else {
+        Ok(stack.pop())
+    }
+
+    // The form of such a line: `-` none, `b` blank, `l` let, `p` print, `s` same, `f` flags.
+    fn form_letter(alloc: Global, line: &[u8]) -> R<u8> {
+        let Some(items) = items_of(alloc, line)? else {
             return Ok(b'?');
         };
         match form_of_items(alloc, items.as_slice())? {
@@ -358,12 +378,13 @@ mod tests {
             Some(Form::Let(_, _)) => Ok(b'l'),
             Some(Form::Print(_)) => Ok(b'p'),
             Some(Form::Same(_, _)) => Ok(b's'),
+            Some(Form::Flags(_)) => Ok(b'f'),
         }
     }
 
     #[test]
     fn lines_have_their_forms(rt: HostRuntime) -> Result<(), Fail> {
-        let rows: [(&[u8], u8); 19] = [
+        let rows: [(&[u8], u8); 20] = [
             (b"", b'b'),
             (b"print u8", b'p'),
             (b"print ( ref not static u8 )", b'p'),
@@ -375,7 +396,8 @@ mod tests {
             (b"print ref", b'-'),
             (b"print ( tuple u8 )", b'-'),
             (b"print ( ref maybe static u8 )", b'-'),
-            (b"flags u8", b'-'),
+            (b"flags u8", b'f'),
+            (b"flags u8 u8", b'-'),
             (b"let X u8", b'l'),
             (b"let x u8", b'-'),
             (b"let X", b'-'),
@@ -387,6 +409,60 @@ mod tests {
         for (line, want) in rows {
             assert_eq!(rt; form_letter(rt.alloc(), line)?, want);
         }
+        Ok(())
+    }
+    // How many fields, bound variables and kids a label of this word has whose parts are such a line; without a group it binds 9.
+    fn counts(alloc: Global, word: Word, line: &[u8]) -> R<Option<(usize, usize, usize)>>
+        requires { IsTrue (are_built (row word).parts) }
+    {
+        let Some(items) = items_of(alloc, line)? else {
+            return Ok(None);
+        };
+        match labelled(alloc, word, items.as_slice())? {
+            Some(Phrase::Labelled(_, fields, bind, kids)) => {
+                let bound = match &bind {
+                    Some(kinds) => kinds.len(),
+                    None => 9,
+                };
+                Ok(Some((fields.len(), bound, kids.len())))
+            }
+            _ => Ok(None),
+        }
+    }
+
+    #[test]
+    fn variables_have_numbers_and_a_kind(rt: HostRuntime) -> Result<(), Fail> {
+        let rows: [(&[u8], bool); 6] = [
+            (b"0 4294967295 t", true),
+            (b"0 1 r:A", true),
+            (b"0 1", false),
+            (b"00 1 t", false),
+            (b"0 4294967296 t", false),
+            (b"0 1 ( t )", false),
+        ];
+        for (line, want) in rows {
+            let counts = counts(rt.alloc(), Word::BoundVariable, line)?;
+            assert_eq!(rt; counts, if want { Some((3, 9, 0)) } else { None });
+        }
+        let canonical = counts(rt.alloc(), Word::CanonicalVariable, b"* 3 c")?;
+        assert_eq!(rt; canonical, Some((2, 9, 0)));
+        Ok(())
+    }
+
+    #[test]
+    fn binders_have_a_group(rt: HostRuntime) -> Result<(), Fail> {
+        let rows: [(&[u8], Option<(usize, usize, usize)>); 5] = [
+            (b"( for t r ) safe C fixed ( u8 )", Some((3, 2, 1))),
+            (b"( for ) unsafe Rust variadic ( )", Some((3, 0, 1))),
+            (b"( t ) safe C fixed ( u8 )", None),
+            (b"( for u8 ) safe C fixed ( u8 )", None),
+            (b"safe C fixed ( u8 )", None),
+        ];
+        for (line, want) in rows {
+            assert_eq!(rt; counts(rt.alloc(), Word::FnPtrType, line)?, want);
+        }
+        let binder = counts(rt.alloc(), Word::UnsafeBinderType, b"( for env ) X")?;
+        assert_eq!(rt; binder, Some((0, 1, 1)));
         Ok(())
     }
 }

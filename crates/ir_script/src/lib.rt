@@ -5,6 +5,7 @@ mod answers;
 mod build;
 mod causes;
 mod expression;
+mod flags;
 mod grammar;
 mod lines;
 mod names;
@@ -12,6 +13,8 @@ mod phrases;
 mod places;
 mod reader;
 mod scope;
+mod variables;
+mod words;
 
 pub use answers::{Answered, answer};
 pub use causes::{Cause, ScriptError};

@@ -1,14 +1,66 @@
 //! Names that no earlier line declares.
-ghost use Rattle.std.specs.Prelude.{◌≡◌, [], None, true, false};
+ghost use Rattle.std.specs.Prelude.{◌≡◌, [], None, true, false, map as mapped};
 ghost use Rattle.ir_core.specs.declared.handles.Part.{Part};
 ghost use Rattle.ir_laws.specs.Cause.{is_cause_among, Unknown};
 ghost use Rattle.ir_laws.specs.Heap.{Heap};
-ghost use Rattle.ir_laws.specs.Names.{unknown_in, unknown_each};
-ghost use Rattle.ir_script.specs.Phrases.{phrase_seen, phrases_seen};
+ghost use Rattle.ir_laws.specs.Label.{row};
+ghost use Rattle.ir_laws.specs.declared.labels.FieldForm.{FieldForm};
+ghost use Rattle.ir_laws.specs.Names.{by_form, field_forms, if_so, unknown_bind, unknown_field, unknown_in, unknown_each, unknown_kind};
+ghost use Rattle.ir_script.specs.Phrases.{bind_seen, field_seen, kind_seen, phrase_seen, phrases_seen};
 ghost use Rattle.ir_script.specs.Scope.{env_of, names_in};
 
-use crate::phrases::Phrase;
+use crate::phrases::{Field, Phrase, VariableKind, placed};
 use crate::scope::Scope;
+use ir_laws::Word;
+
+/// Whether the kind has a name that isn't declared.
+fn unknown_kind(scope: &Scope, kind: &VariableKind) -> bool
+    ensures { (h : Heap Part) → unknown_kind (env_of h (names_in scope.now)) None (kind_seen kind.now) ≡ if_so result Unknown }
+{
+    match kind.name() {
+        Some(name) => scope.find(name.as_bytes()).is_none(),
+        None => false,
+    }
+}
+
+/// Whether the field has such a name, whatever its place.
+fn unknown_field(scope: &Scope, field: &Field) -> bool
+    ensures { (h : Heap Part) (form : FieldForm) → unknown_field (env_of h (names_in scope.now)) None form (field_seen field.now) ≡ if_so result Unknown }
+{
+    match field {
+        Field::Chosen(_) | Field::Number(_) => false,
+        Field::OfKind(kind) => unknown_kind(scope, kind),
+    }
+}
+
+/// Whether a field of the label has such a name.
+fn unknown_in_fields(scope: &Scope, word: Word, fields: &[Field]) -> bool
+    ensures unknown { (h : Heap Part) → result ≡ true → is_cause_among (by_form (unknown_field (env_of h (names_in scope.now)) None) (field_forms (row word).parts) (mapped field_seen fields.now)) Unknown ≡ true }
+    ensures known { (h : Heap Part) → result ≡ false → by_form (unknown_field (env_of h (names_in scope.now)) None) (field_forms (row word).parts) (mapped field_seen fields.now) ≡ [] }
+{
+    for field in placed(word, fields) {
+        if unknown_field(scope, field) {
+            return true;
+        }
+    }
+    false
+}
+
+/// Whether a kind that the label binds has such a name.
+fn unknown_in_bind(scope: &Scope, bind: &Option<Vec<VariableKind>>) -> bool
+    ensures unknown { (h : Heap Part) → result ≡ true → is_cause_among (unknown_bind (env_of h (names_in scope.now)) None (bind_seen bind.now)) Unknown ≡ true }
+    ensures known { (h : Heap Part) → result ≡ false → unknown_bind (env_of h (names_in scope.now)) None (bind_seen bind.now) ≡ [] }
+{
+    let Some(kinds) = bind else {
+        return false;
+    };
+    for kind in kinds {
+        if unknown_kind(scope, kind) {
+            return true;
+        }
+    }
+    false
+}
 
 /// Whether a name stands in the phrase that isn't declared.
 #[cycle(names)]
@@ -18,7 +70,11 @@ pub(crate) fn unknown_name(scope: &Scope, phrase: &Phrase) -> bool
 {
     match phrase {
         Phrase::Name(name) => scope.find(name.as_bytes()).is_none(),
-        Phrase::Labelled(_, _, kids) => unknown_among(scope, kids),
+        Phrase::Labelled(word, fields, bind, kids) => {
+            unknown_in_fields(scope, *word, fields)
+                || unknown_in_bind(scope, bind)
+                || unknown_among(scope, kids)
+        }
     }
 }
 
@@ -39,9 +95,13 @@ fn unknown_among(scope: &Scope, phrases: &[Phrase]) -> bool
 #[cfg(test)]
 mod tests {
     use super::*;
-    use ir_core::Text;
-    use ir_laws::Word;
+    use ir_core::{R, Text};
+    use std::alloc::Global;
     use std::test::Fail;
+
+    fn leaf(alloc: Global, word: Word) -> Phrase {
+        Phrase::Labelled(word, Vec::new(alloc), None, Vec::new(alloc))
+    }
 
     #[test]
     fn a_name_is_unknown_and_a_word_is_not(rt: HostRuntime) -> Result<(), Fail> {
@@ -53,11 +113,44 @@ mod tests {
         assert!(rt;
             unknown_name(
                 &scope,
-                &Phrase::Labelled(Word::TypeList, Vec::new(alloc), kids)
+                &Phrase::Labelled(Word::TypeList, Vec::new(alloc), None, kids)
             )
         );
-        let word = Phrase::Labelled(Word::U8Type, Vec::new(alloc), Vec::new(alloc));
-        assert!(rt; !unknown_name(&scope, &word));
+        assert!(rt; !unknown_name(&scope, &leaf(alloc, Word::U8Type)));
         Ok(())
+    }
+
+    #[test]
+    fn a_kind_may_have_an_unknown_name(rt: HostRuntime) -> Result<(), Fail> {
+        let alloc = rt.alloc();
+        let scope = Scope::new(alloc);
+        for is_field in [true, false] {
+            let name = Text::from_bytes(alloc, b"A")?;
+            let kinds = vec![in alloc; VariableKind::Type(None), VariableKind::Region(Some(name))]?;
+            assert!(rt; unknown_name(&scope, &with_kinds(alloc, is_field, kinds)?));
+            let kinds = vec![in alloc; VariableKind::Type(None), VariableKind::Environment]?;
+            assert!(rt; !unknown_name(&scope, &with_kinds(alloc, is_field, kinds)?));
+        }
+        Ok(())
+    }
+
+    // A label with these kinds: one that binds them, or a variable of the last.
+    fn with_kinds(alloc: Global, is_field: bool, kinds: Vec<VariableKind>) -> R<Phrase> {
+        let mut fields = Vec::new(alloc);
+        if !is_field {
+            return Ok(Phrase::Labelled(
+                Word::UnsafeBinderType,
+                fields,
+                Some(kinds),
+                Vec::new(alloc),
+            ));
+        }
+        fields.push(Field::Number(0))?;
+        fields.push(Field::Number(1))?;
+        let mut rest = kinds;
+        if let Some(kind) = rest.pop() {
+            fields.push(Field::OfKind(kind))?;
+        }
+        Ok(Phrase::Labelled(Word::BoundVariable, fields, None, Vec::new(alloc)))
     }
 }

@@ -1,18 +1,58 @@
 //! Terms of the grammar, and the forms of lines. Names aren't looked up here.
-use ir_core::Text;
-use ir_laws::{Keyword, Word};
+ghost use Rattle.ir_laws.specs.Names.{field_forms};
+ghost use Rattle.ir_laws.specs.Label.{row};
+ghost use Rattle.ir_script.specs.Phrases.{kind_seen, name_in};
+ghost use Rattle.std.specs.Prelude.{◌≡◌, length, option_map, take};
 
-/// A name, or a label with its fields and its kids. A list is a label too.
+use ir_core::Text;
+use ir_laws::{Keyword, Part, Sort, Word};
+
+/// A name; or a label with its fields, the variables that it binds where it has a group for these, and its kids. A list is a label too.
 #[derive(Drop)]
 pub(crate) enum Phrase {
     Name(Text),
-    Labelled(Word, Vec<Field>, Vec<Phrase>),
+    Labelled(Word, Vec<Field>, Option<Vec<VariableKind>>, Vec<Phrase>),
 }
 
 /// What a label keeps beside its word.
-#[derive(Clone, Copy, PartialEq, Eq, Debug)]
+#[derive(Drop)]
 pub(crate) enum Field {
     Chosen(Keyword),
+    Number(u32),
+    OfKind(VariableKind),
+}
+
+/// The kind of a variable. A type or a region may have the name of an item.
+#[derive(Drop)]
+pub(crate) enum VariableKind {
+    Type(Option<Text>),
+    Region(Option<Text>),
+    /// The region of a closure's environment.
+    Environment,
+    Constant,
+}
+
+impl VariableKind {
+    /// The sort of such a variable.
+    pub(crate) fn sort(&self) -> Sort
+        ensures { result ≡ (kind_seen self.now).sort }
+    {
+        match self {
+            VariableKind::Type(_) => Sort::OfType,
+            VariableKind::Region(_) | VariableKind::Environment => Sort::OfRegion,
+            VariableKind::Constant => Sort::OfConstant,
+        }
+    }
+
+    /// The name that it has.
+    pub(crate) fn name(&self) -> Option<&Text>
+        ensures { option_map (λ text. text.now) result ≡ name_in (kind_seen self.now) }
+    {
+        match self {
+            VariableKind::Type(name) | VariableKind::Region(name) => name.as_ref(),
+            VariableKind::Environment | VariableKind::Constant => None,
+        }
+    }
 }
 
 /// What a line asks for.
@@ -26,4 +66,27 @@ pub(crate) enum Form {
     Print(Phrase),
     /// Whether two terms are the same.
     Same(Phrase, Phrase),
+    /// The flags of a term, and how many binders outside of it it speaks of.
+    Flags(Phrase),
+}
+
+// How many of the parts become fields.
+fn field_count(parts: &[Part]) -> usize
+    ensures { result ≡ length (field_forms parts.now) }
+{
+    let mut count = 0;
+    for part in parts {
+        if let Part::AField(_) = part {
+            count += 1;
+        }
+    }
+    count
+}
+
+/// The fields that have a place in the row of the word. The grammar makes no others.
+pub(crate) fn placed(word: Word, fields: &[Field]) -> &[Field]
+    ensures { result.now ≡ take (length (field_forms (row word).parts)) fields.now }
+{
+    let count = field_count(word.parts());
+    &fields[..count.min(fields.len())]
 }

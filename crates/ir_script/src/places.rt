@@ -1,17 +1,21 @@
 //! Terms in places that want another sort, and lists of a length that theirs does not take.
-ghost use Rattle.std.specs.Prelude.{◌≡◌, [], drop, get_or};
-ghost use Rattle.ir_laws.specs.Counts.{sort_of_label};
-ghost use Rattle.ir_laws.specs.Sorts.{are_of_one_sort, sort_of_phrase as sort_in, operand, is_sort_among, suits, length_misfits, kid_wanted, kids_wanted, places, misfits, each_misfits};
+ghost use Rattle.std.specs.Prelude.{◌≡◌, List, [], true, false, drop, get_or, map as mapped};
+ghost use Rattle.ir_laws.specs.Cause.{is_cause_among, WrongSort};
+ghost use Rattle.ir_laws.specs.Counts.{sort_of_fields, sort_of_label};
+ghost use Rattle.ir_laws.specs.Environment.{NamedTerm};
+ghost use Rattle.ir_laws.specs.Names.{if_so};
+ghost use Rattle.ir_laws.specs.declared.labels.FieldForm.{FieldForm};
+ghost use Rattle.ir_laws.specs.Sorts.{are_of_one_sort, bind_misfits, field_misfits, fields_misfits, sort_of_phrase as sort_in, operand, is_sort_among, suits, length_misfits, kid_wanted, kids_wanted, places, misfits, each_misfits};
 ghost use Rattle.ir_laws.specs.declared.words.Word.{Word};
 ghost use Rattle.ir_script.specs.Causes.{no_names, Finds};
-ghost use Rattle.ir_script.specs.Phrases.{phrase_seen, phrases_seen};
+ghost use Rattle.ir_script.specs.Phrases.{bind_seen, field_seen, label_seen, phrase_seen, phrases_seen};
 ghost use Rattle.ir_core.specs.declared.handles.Part.{Part as PartSeen};
 ghost use Rattle.ir_laws.specs.Heap.{Heap};
-ghost use Rattle.ir_script.specs.Scope.{AreTerms, env_of, names_in};
+ghost use Rattle.ir_script.specs.Scope.{AreTerms, env_of, named_only, names_in};
 ghost use Rattle.ir_script.specs.Wanted.{wanted_seen, bare};
 
 use crate::causes::Cause;
-use crate::phrases::Phrase;
+use crate::phrases::{Field, Phrase, VariableKind, placed};
 use crate::scope::Scope;
 use ir_laws::{IfEmpty, KidForm, Part, Sort, Word};
 
@@ -98,13 +102,25 @@ impl Wanted {
     }
 }
 
-/// The sort of a label of this word. Where it is that of a variable kind there is none to take it from, as phrases keep no kinds yet, and it counts as a list.
-fn sort_of(word: Word) -> Sort
-    ensures { result ≡ sort_of_label (bare word) }
+/// The sort of the first variable kind among the fields. Where there is none it counts as a list's.
+fn sort_of_fields(fields: &[Field]) -> Sort
+    ensures { result ≡ sort_of_fields (mapped field_seen fields.now) }
+{
+    for field in fields {
+        if let Field::OfKind(kind) = field {
+            return kind.sort();
+        }
+    }
+    Sort::OfList
+}
+
+/// The sort of a label of this word with these fields.
+fn sort_of(word: Word, fields: &[Field]) -> Sort
+    ensures { result ≡ sort_of_label (label_seen word fields.now) }
 {
     match word.sort() {
         Some(sort) => sort,
-        None => Sort::OfList,
+        None => sort_of_fields(fields),
     }
 }
 
@@ -133,7 +149,7 @@ fn sort_of_phrase(scope: &Scope, phrase: &Phrase) -> Option<Sort>
 {
     match phrase {
         Phrase::Name(name) => scope.sort_of(name.as_bytes()),
-        Phrase::Labelled(word, _, _) => Some(sort_of(*word)),
+        Phrase::Labelled(word, fields, _, _) => Some(sort_of(*word, fields)),
     }
 }
 
@@ -145,6 +161,45 @@ pub(crate) fn have_one_sort(scope: &Scope, first: &Phrase, second: &Phrase) -> b
         (Some(one), Some(other)) => one == other,
         _ => false,
     }
+}
+
+/// Whether the field has a name. It is not that of an item, as none is declared.
+fn is_named(field: &Field) -> bool
+    ensures { (ts : List NamedTerm) (form : FieldForm) → field_misfits (named_only ts) form (field_seen field.now) ≡ if_so result WrongSort }
+{
+    match field {
+        Field::Chosen(_) | Field::Number(_) => false,
+        Field::OfKind(kind) => kind.name().is_some(),
+    }
+}
+
+/// Whether a field of the label has such a name.
+fn has_named_field(word: Word, fields: &[Field]) -> bool
+    ensures named { (ts : List NamedTerm) → result ≡ true → is_cause_among (fields_misfits (named_only ts) (label_seen word fields.now)) WrongSort ≡ true }
+    ensures nameless { (ts : List NamedTerm) → result ≡ false → fields_misfits (named_only ts) (label_seen word fields.now) ≡ [] }
+{
+    for field in placed(word, fields) {
+        if is_named(field) {
+            return true;
+        }
+    }
+    false
+}
+
+/// Whether a kind that the label binds has such a name.
+fn has_named_variable(bind: &Option<Vec<VariableKind>>) -> bool
+    ensures named { (ts : List NamedTerm) → result ≡ true → is_cause_among (bind_misfits (named_only ts) (bind_seen bind.now)) WrongSort ≡ true }
+    ensures nameless { (ts : List NamedTerm) → result ≡ false → bind_misfits (named_only ts) (bind_seen bind.now) ≡ [] }
+{
+    let Some(kinds) = bind else {
+        return false;
+    };
+    for kind in kinds {
+        if kind.name().is_some() {
+            return true;
+        }
+    }
+    false
 }
 
 /// A fault of the phrase as an operand.
@@ -170,8 +225,11 @@ fn misfit_in(scope: &Scope, wanted: Wanted, phrase: &Phrase) -> Option<Cause>
                 Some(Cause::Sort)
             }
         }
-        Phrase::Labelled(word, _, kids) => {
-            if !wanted.suits(sort_of(*word)) {
+        Phrase::Labelled(word, fields, bind, kids) => {
+            if !wanted.suits(sort_of(*word, fields))
+                || has_named_field(*word, fields)
+                || has_named_variable(bind)
+            {
                 return Some(Cause::Sort);
             }
             match wanted.length_misfit(kids.len()) {
@@ -202,13 +260,13 @@ fn misfit_among(scope: &Scope, kids: &[Phrase], parts: &[Part], further: Wanted)
 #[cfg(test)]
 mod tests {
     use super::*;
-    use crate::phrases::Field;
+    use ir_core::Text;
     use ir_laws::Keyword;
     use std::alloc::{AllocError, Global};
     use std::test::Fail;
 
     fn node(alloc: Global, word: Word, kids: Vec<Phrase>) -> Phrase {
-        Phrase::Labelled(word, Vec::new(alloc), kids)
+        Phrase::Labelled(word, Vec::new(alloc), None, kids)
     }
 
     fn leaf(alloc: Global, word: Word) -> Phrase {
@@ -221,22 +279,72 @@ mod tests {
         Ok(node(alloc, Word::TupleType, kids))
     }
 
-    /// `(ref not REGION TYPE)`, each of the two a word alone.
-    fn reference(alloc: Global, region: Word, ty: Word) -> Result<Phrase, AllocError> {
+    /// `(ref not REGION TYPE)`.
+    fn reference(alloc: Global, region: Phrase, ty: Phrase) -> Result<Phrase, AllocError> {
         let fields = vec![in alloc; Field::Chosen(Keyword::Not)]?;
-        let kids = vec![in alloc; leaf(alloc, region), leaf(alloc, ty)]?;
-        Ok(Phrase::Labelled(Word::ReferenceType, fields, kids))
+        let kids = vec![in alloc; region, ty]?;
+        Ok(Phrase::Labelled(Word::ReferenceType, fields, None, kids))
+    }
+
+    /// `(var 0 0 K)`.
+    fn variable(alloc: Global, kind: VariableKind) -> Result<Phrase, AllocError> {
+        let fields = vec![in alloc; Field::Number(0), Field::Number(0), Field::OfKind(kind)]?;
+        Ok(Phrase::Labelled(Word::BoundVariable, fields, None, Vec::new(alloc)))
     }
 
     #[test]
     fn kids_go_by_the_parts_of_their_label(rt: HostRuntime) -> Result<(), Fail> {
         let alloc = rt.alloc();
         let scope = Scope::new(alloc);
-        let fits = reference(alloc, Word::StaticRegion, Word::U8Type)?;
+        let fits = reference(
+            alloc,
+            leaf(alloc, Word::StaticRegion),
+            leaf(alloc, Word::U8Type),
+        )?;
         assert_eq!(rt; misfit(&scope, &fits), None);
-        let no_region = reference(alloc, Word::U8Type, Word::U8Type)?;
+        let no_region = reference(alloc, leaf(alloc, Word::U8Type), leaf(alloc, Word::U8Type))?;
         assert_eq!(rt; misfit(&scope, &no_region), Some(Cause::Sort));
         assert_eq!(rt; misfit(&scope, &leaf(alloc, Word::StaticRegion)), None);
+        Ok(())
+    }
+
+    #[test]
+    fn a_variable_has_the_sort_of_its_kind(rt: HostRuntime) -> Result<(), Fail> {
+        let alloc = rt.alloc();
+        let scope = Scope::new(alloc);
+        let region = variable(alloc, VariableKind::Environment)?;
+        let ty = variable(alloc, VariableKind::Type(None))?;
+        assert_eq!(rt; misfit(&scope, &reference(alloc, region, ty)?), None);
+        let region = variable(alloc, VariableKind::Constant)?;
+        let ty = variable(alloc, VariableKind::Type(None))?;
+        assert_eq!(rt;
+            misfit(&scope, &reference(alloc, region, ty)?),
+            Some(Cause::Sort)
+        );
+        Ok(())
+    }
+
+    // `(unsafe (for K) u8)`.
+    fn binder(alloc: Global, kind: VariableKind) -> Result<Phrase, AllocError> {
+        let kinds = vec![in alloc; kind]?;
+        let kids = vec![in alloc; leaf(alloc, Word::U8Type)]?;
+        Ok(Phrase::Labelled(Word::UnsafeBinderType, Vec::new(alloc), Some(kinds), kids))
+    }
+
+    #[test]
+    fn a_kind_has_the_name_of_an_item(rt: HostRuntime) -> Result<(), Fail> {
+        let alloc = rt.alloc();
+        let scope = Scope::new(alloc);
+        let name = Text::from_bytes(alloc, b"A")?;
+        let named = variable(alloc, VariableKind::Region(Some(name)))?;
+        assert_eq!(rt; misfit(&scope, &named), Some(Cause::Sort));
+        let name = Text::from_bytes(alloc, b"A")?;
+        let named = binder(alloc, VariableKind::Type(Some(name)))?;
+        assert_eq!(rt; misfit(&scope, &named), Some(Cause::Sort));
+        assert_eq!(rt;
+            misfit(&scope, &binder(alloc, VariableKind::Type(None))?),
+            None
+        );
         Ok(())
     }
 
@@ -254,14 +362,18 @@ mod tests {
     }
 
     #[test]
-    fn an_alternative_needs_a_member(rt: HostRuntime) -> Result<(), Fail> {
+    fn some_lists_need_a_member(rt: HostRuntime) -> Result<(), Fail> {
         let alloc = rt.alloc();
         let scope = Scope::new(alloc);
-        let list = leaf(alloc, Word::PatternList);
-        let kids = vec![in alloc; list]?;
+        let kids = vec![in alloc; leaf(alloc, Word::PatternList)]?;
         assert_eq!(rt;
             misfit(&scope, &node(alloc, Word::OrPattern, kids)),
             Some(Cause::EmptyOr)
+        );
+        let kids = vec![in alloc; leaf(alloc, Word::TypeList)]?;
+        assert_eq!(rt;
+            misfit(&scope, &node(alloc, Word::FnPtrType, kids)),
+            Some(Cause::Arity)
         );
         Ok(())
     }

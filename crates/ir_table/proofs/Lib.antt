@@ -1,6 +1,8 @@
 pub mod TableLemmas
+pub mod KindLemmas
 pub mod PartLemmas
 pub mod LoopLemmas
+pub mod AboveLemmas
 pub mod StateLemmas
 pub mod SortLemmas
 pub mod Sorts
@@ -12,3 +14,4 @@ pub mod LastLemmas
 pub mod NodeLemmas
 pub mod JoinLemmas
 pub mod SpellingLemmas
+pub mod ListedLemmas

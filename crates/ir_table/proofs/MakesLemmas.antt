@@ -1,17 +1,16 @@
 -- What calls that make trees answer together.
-use Rattle.std.proofs.Common.{◌≡◌, suc, List, [], ◌∷◌, ◌++◌, Result, Ok, Err, OnOk, true, ◌⊎◌, inl, inr, ⊎_elim, refl, sym, ap, subst, ◌∙◌, arith}
+use Rattle.std.proofs.Common.{◌≡◌, List, [], ◌∷◌, ◌++◌, Result, Ok, Err, OnOk, true, ◌⊎◌, inl, inr, ⊎_elim, refl, sym, ap, subst, ◌∙◌, arith}
 use Rattle.ir_core.specs.declared.errors.TermError.{TermError}
 use Rattle.ir_core.specs.declared.errors.TermError.TheVariants as error
 use Rattle.ir_core.specs.declared.handles.Part.{Part}
-use Rattle.ir_laws.specs.Counts.{height}
-use Rattle.ir_laws.specs.Heap.{Shape, plant, forest, Heap, Each, IsLive, IsSound, Grows, tree_of, cached_height, height_above}
+use Rattle.ir_laws.specs.Heap.{Layer, Heap, IsLive, Grows, tree_of, tree_above}
 use Rattle.ir_laws.specs.Held.{Stands, HoldsJust, Counts}
-use Rattle.ir_laws.specs.Limits.{Limits, capped}
+use Rattle.ir_laws.specs.Limits.{Limits, capped, is_within}
 use Rattle.ir_laws.specs.Parts.{is_part, is_set}
 use Rattle.ir_laws.specs.Tree.{Term}
-use Rattle.ir_laws.proofs.HeapLemmas.{Each-map, height-plant, heights-forest, height-tree_of, Grows-refl, Grows-trans}
+use Rattle.ir_laws.proofs.HeapLemmas.{Grows-refl, Grows-trans}
 use Rattle.ir_laws.proofs.PartSets.{no_part, part_is, part_here, part_of_cons, part_left, part_right, part_of_append, without, without_held, without_shorter}
-use Rattle.ir_table.specs.State.{State, NewAnswers, Makes}
+use Rattle.ir_table.specs.State.{State, NewAnswers, Makes, fits}
 
 -- a tree that stands in a heap stands in a later one
 stands_on : (h k : Heap Part) (t : Term) → Grows h k → Stands h t → Stands k t
@@ -28,15 +27,9 @@ makes_none s = record {
   limits = refl;
 }
 
--- the tree of a node is as high as the node
-planted_height : (h : Heap Part) (shape : Shape) (kids : List Part) → IsSound h → Each (IsLive h) kids → height (plant shape (forest (tree_of h) kids)) ≡ height_above h kids
-planted_height h shape kids sound live = height-plant shape (forest (tree_of h) kids)
-    ∙ ap suc (heights-forest (tree_of h) (cached_height h) kids (Each-map (IsLive h) (λ p. height (tree_of h p) ≡ cached_height h p) (height-tree_of h sound) kids live))
-
-module _ {T : Type 0} {name : T → Part} (old new : State) (shape : Shape) (kids : List Part) where
-  pub makes_new : (r : Result T TermError) (t : Term) → IsSound old.heap → Counts old.heap old.count → Each (IsLive old.heap) kids
-      → t ≡ plant shape (forest (tree_of old.heap) kids) → NewAnswers name old new shape kids r → Makes old new (t ∷ []) r
-  makes_new (Ok x) t sound counted live e a = record {
+module _ {T : Type 0} {name : T → Part} (old new : State) (l : Layer Part) where
+  pub makes_new : (r : Result T TermError) (t : Term) → Counts old.heap old.count → t ≡ tree_above old.heap l → NewAnswers name old new l r → Makes old new (t ∷ []) r
+  makes_new (Ok x) t counted e a = record {
     grows = a.ok.grows;
     only = λ p now. ⊎_elim inl (λ same. inr (part_is t [] (tree_of new.heap p) (e ∙ sym a.ok.tree ∙ sym (ap (tree_of new.heap) same)))) (a.ok.only p now);
     all = λ u m. ⊎_elim (λ here. (name x, a.ok.live, a.ok.tree ∙ sym e ∙ here)) (λ none. absurd (no_part u none)) (part_of_cons t [] u m);
@@ -45,14 +38,11 @@ module _ {T : Type 0} {name : T → Part} (old new : State) (shape : Shape) (kid
     causes = tt;
     limits = a.limits;
   }
-  makes_new (Err x) t sound counted live e a = record {
+  makes_new (Err x) t counted e a = record {
     grows = subst (λ (s : State). Grows old.heap s.heap) (sym a.err) (Grows-refl old.heap);
     only = λ p now. inl (subst (λ (s : State). IsLive s.heap p) a.err now);
     all = tt;
-    too_deep = λ q.
-        let deep = a.too_deep q in
-        let high = ap height e ∙ planted_height old.heap shape kids sound live in
-        (t, part_here t [], omega arith);
+    too_deep = λ q. (t, part_here t [], ap (fits old) e ∙ a.too_deep q);
     too_many = λ q us covers.
         let full = a.too_many q in
         let rest = counted.least (without t us) (λ p here. without_held t us (tree_of old.heap p) (covers.held p here) (λ same. full.0 (p, here, sym same ∙ e))) in
@@ -72,7 +62,7 @@ makes_then {U = U} old mid new ts us x r a b = record {
       (λ made. inr (part_right ts us (tree_of new.heap p) made))
       (b.only p live);
   all = by r b.all;
-  too_deep = λ q. let w = b.too_deep q in let same = ap (λ (l : Limits). (capped l).height) a.limits in (w.0, part_right ts us w.0 w.1, omega arith);
+  too_deep = λ q. let w = b.too_deep q in (w.0, part_right ts us w.0 w.1, ap (λ (l : Limits). is_within (capped l) w.0) (sym a.limits) ∙ w.2);
   too_many = λ q vs covers.
       let more = b.too_many q vs (record {
         held = λ p live. ⊎_elim

@@ -1,31 +1,29 @@
 -- What the tables' heap says of each sort.
-use Rattle.std.proofs.Common.{◌≡◌, ◌<◌, ◌≤◌, ℕ, zero, suc, Bool, true, false, is_some, true≢false, if◌then◌else◌, nat_eq, arith, List, [], ◌∷◌, ◌++◌, length, slice_get, map, nat_lt, IsTrue, ◌↔◌, Option, None, Some, Result, Ok, Err, ◌⊎◌, inl, inr, refl, sym, ap, subst, ◌∙◌}
+use Rattle.std.proofs.Common.{◌≡◌, ◌<◌, ℕ, zero, suc, Bool, true, false, is_some, true≢false, if◌then◌else◌, nat_eq, arith, List, [], ◌∷◌, ◌++◌, length, slice_get, map, nat_lt, IsTrue, ◌↔◌, Option, None, Some, Result, Ok, Err, ◌⊎◌, inl, inr, refl, sym, ap, subst, ◌∙◌}
 use Rattle.std.proofs.lemmas.Bool.Decides.{nat_tests}
 use Rattle.std.proofs.lemmas.Option.{none-some, same_Some}
-use Rattle.std.specs.Option.{option_map}
+use Rattle.std.specs.Option.{option_map, option_map_or}
 use Rattle.std.specs.Result.{OnOk, OnErr}
+use Rattle.ir_core.specs.declared.handles.BoundVarKinds.{BoundVarKinds}
+use Rattle.ir_core.specs.declared.handles.Const.{Const}
+use Rattle.ir_core.specs.declared.handles.Region.{Region}
 use Rattle.ir_core.specs.declared.handles.Ty.{Ty}
+use Rattle.ir_core.specs.declared.handles.VariancesOf.{VariancesOf}
 use Rattle.ir_core.specs.declared.handles.Tys.{Tys}
 use Rattle.ir_core.specs.declared.handles.Part.{Part}
 use Rattle.ir_core.specs.declared.handles.Part.TheVariants as part
 use Rattle.ir_core.specs.declared.kinds.TyKind.{TyKind}
-use Rattle.ir_core.specs.declared.kinds.TyKind.TheVariants as kind
 use Rattle.ir_core.specs.declared.kinds.ConstKind.{ConstKind}
-use Rattle.ir_core.specs.declared.kinds.ConstKind.TheVariants as konst
 use Rattle.ir_core.specs.declared.kinds.RegionKind.{RegionKind}
-use Rattle.ir_core.specs.declared.kinds.RegionKind.TheVariants as region
-use Rattle.ir_core.specs.declared.kinds.IntTy.TheVariants as int
-use Rattle.ir_core.specs.declared.kinds.UintTy.TheVariants as uint
-use Rattle.ir_core.specs.declared.kinds.FloatTy.TheVariants as float
-use Rattle.ir_core.specs.declared.kinds.Mutability.TheVariants as mutability
-use Rattle.ir_core.specs.declared.kinds.BoundRegionKind.TheVariants as bound_region
-use Rattle.ir_core.specs.declared.kinds.BoundVarKind.{BoundVarKind}
-use Rattle.ir_core.specs.declared.kinds.BoundVarKind.TheVariants as variable
 use Rattle.ir_core.specs.declared.kinds.Variance.{Variance}
 use Rattle.ir_core.specs.declared.kinds.Variance.TheVariants as variance
+use Rattle.ir_core.specs.declared.variables.BoundVarKind.{BoundVarKind}
 use Rattle.ir_laws.specs.declared.words.Word.{Word}
-use Rattle.ir_laws.specs.declared.words.Word.TheVariants.{StaticRegion, ErasedRegion, ErrorRegion, ErrorConstant, TypeList, ArgumentList, PatternList, ExistentialList, ClauseList, VariableList, VarianceList, AssumptionList}
-use Rattle.ir_laws.specs.Heap.{Shape, Sketch, Heap, IsLive, IsSound, Adds, cached_height}
+use Rattle.ir_laws.specs.declared.words.Word.TheVariants.{TypeList, ArgumentList, PatternList, ExistentialList, ClauseList, VariableList, VarianceList, AssumptionList}
+use Rattle.ir_laws.specs.declared.labels.Sort.{Sort as LabelSort}
+use Rattle.ir_laws.specs.declared.labels.Sort.TheVariants.{OfType, OfRegion, OfConstant}
+use Rattle.ir_laws.specs.Counts.{sort_of_label}
+use Rattle.ir_laws.specs.Heap.{Layer, Sketch, Heap, Each, IsLive, IsSound, Adds, names_in, with_binder, is_binder, is_variable_list, are_kinds, tree_of}
 use Rattle.ir_laws.specs.declared.labels.Keyword.TheVariants.{Covariant, Contravariant, Bivariant}
 use Rattle.ir_core.specs.declared.ids.SolverDefId.{SolverDefId}
 use Rattle.ir_laws.specs.Tree.{Field, Chosen}
@@ -34,8 +32,10 @@ use Rattle.ir_table.specs.declared.parts.Kept.{Kept}
 use Rattle.ir_table.specs.declared.store.EmptyList.{EmptyList}
 use Rattle.ir_table.specs.declared.store.EmptyList.TheVariants as empty
 use Rattle.ir_table.specs.declared.store.Tables.{Tables}
+use Rattle.ir_table.specs.State.{State, fits}
 use Rattle.ir_table.specs.Table.{HasNoKey}
-use Rattle.ir_table.specs.Kinds.{shape, ty_word, ty_fields, ty_shape, ty_kids, ty_of, const_word, const_shape, region_word, region_shape, region_of, tys_shape, tys_kids, variable_field, variables_shape, variance_field, variances_shape, empty_word, empty_shape, empty_number, empty_part, empty_at, sketch_of, heap_of}
+use Rattle.ir_table.specs.Kinds.{layer, ty_binder, ty_layer, ty_of, const_layer, const_of, region_layer, region_of, tys_layer, variable_seen, variable_field, variables_layer, variance_field, variances_layer, empty_layer, empty_number, empty_part, empty_at, sketch_of, heap_of}
+use Rattle.ir_table.proofs.KindLemmas.{ty_sort, const_sort, region_sort, ty_of-parts, const_of-parts, region_of-parts, ty_binds, variable_in, variable_back}
 use Rattle.ir_table.proofs.TableLemmas.{slice_get_push, slice_get_push_other, slice_get_end}
 
 -- ---- tables with another table of one sort
@@ -78,18 +78,18 @@ empty_same k l e = (by_number empty_number (empty.GenericArgs ∷ empty.PatList 
     back empty.RegionAssumptions = refl
 
 -- the empty list of a sort is a pair of it
-pub empty_pair : (k : EmptyList) (o : Option (EmptyList × Kept)) (s : Sketch Part) → empty_at k o ≡ Some s → (c : Kept) × (o ≡ Some (k, c)) × (sketch_of empty_shape (λ _. []) (k, c) ≡ s)
+pub empty_pair : (k : EmptyList) (o : Option (EmptyList × Kept)) (s : Sketch Part) → empty_at k o ≡ Some s → (c : Kept) × (o ≡ Some (k, c)) × (sketch_of empty_layer (k, c) ≡ s)
 empty_pair k None s e = absurd cc
 empty_pair k (Some x) s e = by (nat_eq (empty_number x.0) (empty_number k)) refl
   where
-    by : (b : Bool) → nat_eq (empty_number x.0) (empty_number k) ≡ b → (c : Kept) × (Some x ≡ Some (k, c)) × (sketch_of empty_shape (λ _. []) (k, c) ≡ s)
+    by : (b : Bool) → nat_eq (empty_number x.0) (empty_number k) ≡ b → (c : Kept) × (Some x ≡ Some (k, c)) × (sketch_of empty_layer (k, c) ≡ s)
     by true same =
         let key = empty_same x.0 k same in
-        let here : Some (sketch_of empty_shape (λ _. []) x) ≡ Some s = sym (ap (λ b. if b then Some (sketch_of empty_shape (λ _. []) x) else None) same) ∙ e in
-        (x.1, ap (λ l. Some (l, x.1)) key, ap (λ l. sketch_of empty_shape (λ _. []) (l, x.1)) (sym key) ∙ same_Some _ _ here)
-    by false other = let bad : None ≡ Some s = sym (ap (λ b. if b then Some (sketch_of empty_shape (λ _. []) x) else None) other) ∙ e in absurd (none-some s bad)
+        let here : Some (sketch_of empty_layer x) ≡ Some s = sym (ap (λ b. if b then Some (sketch_of empty_layer x) else None) same) ∙ e in
+        (x.1, ap (λ l. Some (l, x.1)) key, ap (λ l. sketch_of empty_layer (l, x.1)) (sym key) ∙ same_Some _ _ here)
+    by false other = let bad : None ≡ Some s = sym (ap (λ b. if b then Some (sketch_of empty_layer x) else None) other) ∙ e in absurd (none-some s bad)
 
-empty_here : (k : EmptyList) (c : Kept) → empty_at k (Some (k, c)) ≡ Some (sketch_of empty_shape (λ _. []) (k, c))
+empty_here : (k : EmptyList) (c : Kept) → empty_at k (Some (k, c)) ≡ Some (sketch_of empty_layer (k, c))
 empty_here empty.GenericArgs c = refl
 empty_here empty.PatList c = refl
 empty_here empty.BoundExistentialPredicates c = refl
@@ -101,7 +101,7 @@ empty_here empty.RegionAssumptions c = refl
 data Sort : Type 0 where
   ty : Sort
   constant : Sort
-  region_sort : Sort
+  region : Sort
   tys_list : Sort
   variables_list : Sort
   variances_list : Sort
@@ -110,7 +110,7 @@ data Sort : Type 0 where
 abbrev sort_of : Part → Sort
 sort_of (part.Ty h) = ty
 sort_of (part.Const h) = constant
-sort_of (part.Region h) = region_sort
+sort_of (part.Region h) = region
 sort_of (part.Tys h) = tys_list
 sort_of (part.BoundVarKinds h) = variables_list
 sort_of (part.VariancesOf h) = variances_list
@@ -120,145 +120,111 @@ sort_of (part.BoundExistentialPredicates h) = empty_list empty.BoundExistentialP
 sort_of (part.Clauses h) = empty_list empty.Clauses
 sort_of (part.RegionAssumptions h) = empty_list empty.RegionAssumptions
 
-abbrev word_sort : Word → Sort
-word_sort StaticRegion = region_sort
-word_sort ErasedRegion = region_sort
-word_sort ErrorRegion = region_sort
-word_sort ErrorConstant = constant
-word_sort TypeList = tys_list
-word_sort VariableList = variables_list
-word_sort VarianceList = variances_list
-word_sort ArgumentList = empty_list empty.GenericArgs
-word_sort PatternList = empty_list empty.PatList
-word_sort ExistentialList = empty_list empty.BoundExistentialPredicates
-word_sort ClauseList = empty_list empty.Clauses
-word_sort AssumptionList = empty_list empty.RegionAssumptions
-word_sort _ = ty
+-- lists are told by their word, terms by their sort
+abbrev list_sort : Word → Sort
+list_sort TypeList = tys_list
+list_sort VariableList = variables_list
+list_sort VarianceList = variances_list
+list_sort ArgumentList = empty_list empty.GenericArgs
+list_sort PatternList = empty_list empty.PatList
+list_sort ExistentialList = empty_list empty.BoundExistentialPredicates
+list_sort ClauseList = empty_list empty.Clauses
+list_sort AssumptionList = empty_list empty.RegionAssumptions
+list_sort _ = tys_list
 
-abbrev shape_sort : Shape → Sort
-shape_sort s = word_sort s.label.word
+abbrev label_sort : LabelSort → Word → Sort
+label_sort OfType w = ty
+label_sort OfConstant w = constant
+label_sort OfRegion w = region
+label_sort _ w = list_sort w
 
-ty_word_sort : (k : TyKind) → word_sort (ty_word k) ≡ ty
-ty_word_sort kind.Bool = refl
-ty_word_sort kind.Char = refl
-ty_word_sort (kind.Int int.I8) = refl
-ty_word_sort (kind.Int int.I16) = refl
-ty_word_sort (kind.Int int.I32) = refl
-ty_word_sort (kind.Int int.I64) = refl
-ty_word_sort (kind.Int int.I128) = refl
-ty_word_sort (kind.Int int.Isize) = refl
-ty_word_sort (kind.Uint uint.U8) = refl
-ty_word_sort (kind.Uint uint.U16) = refl
-ty_word_sort (kind.Uint uint.U32) = refl
-ty_word_sort (kind.Uint uint.U64) = refl
-ty_word_sort (kind.Uint uint.U128) = refl
-ty_word_sort (kind.Uint uint.Usize) = refl
-ty_word_sort (kind.Float float.F16) = refl
-ty_word_sort (kind.Float float.F32) = refl
-ty_word_sort (kind.Float float.F64) = refl
-ty_word_sort (kind.Float float.F128) = refl
-ty_word_sort kind.Str = refl
-ty_word_sort (kind.RawPtr t m) = refl
-ty_word_sort (kind.Ref r t m) = refl
-ty_word_sort kind.Never = refl
-ty_word_sort (kind.Tuple ts) = refl
-ty_word_sort (kind.Error e) = refl
+abbrev layer_sort : Layer Part → Sort
+layer_sort l = label_sort (sort_of_label l.label) l.label.word
 
-const_word_sort : (k : ConstKind) → word_sort (const_word k) ≡ constant
-const_word_sort (konst.Error e) = refl
-
-const_told : (k l : ConstKind) → k ≡ l
-const_told (konst.Error e) (konst.Error f) = refl
-
-region_word_sort : (k : RegionKind) → word_sort (region_word k) ≡ region_sort
-region_word_sort region.ReStatic = refl
-region_word_sort region.ReErased = refl
-region_word_sort (region.ReError e) = refl
-
-empty_word_sort : (k : EmptyList) → word_sort (empty_word k) ≡ empty_list k
+empty_word_sort : (k : EmptyList) → layer_sort (empty_layer k) ≡ empty_list k
 empty_word_sort empty.GenericArgs = refl
 empty_word_sort empty.PatList = refl
 empty_word_sort empty.BoundExistentialPredicates = refl
 empty_word_sort empty.Clauses = refl
 empty_word_sort empty.RegionAssumptions = refl
 
--- a kind is that of its word, fields and kids
-pub ty_of-parts : (k : TyKind) → ty_of (ty_word k) (ty_fields k) (ty_kids k) ≡ k
-ty_of-parts kind.Bool = refl
-ty_of-parts kind.Char = refl
-ty_of-parts (kind.Int int.I8) = refl
-ty_of-parts (kind.Int int.I16) = refl
-ty_of-parts (kind.Int int.I32) = refl
-ty_of-parts (kind.Int int.I64) = refl
-ty_of-parts (kind.Int int.I128) = refl
-ty_of-parts (kind.Int int.Isize) = refl
-ty_of-parts (kind.Uint uint.U8) = refl
-ty_of-parts (kind.Uint uint.U16) = refl
-ty_of-parts (kind.Uint uint.U32) = refl
-ty_of-parts (kind.Uint uint.U64) = refl
-ty_of-parts (kind.Uint uint.U128) = refl
-ty_of-parts (kind.Uint uint.Usize) = refl
-ty_of-parts (kind.Float float.F16) = refl
-ty_of-parts (kind.Float float.F32) = refl
-ty_of-parts (kind.Float float.F64) = refl
-ty_of-parts (kind.Float float.F128) = refl
-ty_of-parts kind.Str = refl
-ty_of-parts (kind.RawPtr t mutability.Not) = refl
-ty_of-parts (kind.RawPtr t mutability.Mut) = refl
-ty_of-parts (kind.Ref r t mutability.Not) = refl
-ty_of-parts (kind.Ref r t mutability.Mut) = refl
-ty_of-parts kind.Never = refl
-ty_of-parts (kind.Tuple ts) = refl
-ty_of-parts (kind.Error e) = refl
+empty_part_sort : (k : EmptyList) (i : ℕ) → layer_sort (empty_layer k) ≡ sort_of (empty_part k i)
+empty_part_sort empty.GenericArgs i = refl
+empty_part_sort empty.PatList i = refl
+empty_part_sort empty.BoundExistentialPredicates i = refl
+empty_part_sort empty.Clauses i = refl
+empty_part_sort empty.RegionAssumptions i = refl
 
-pub region_of-parts : (k : RegionKind) → region_of (region_word k) ≡ k
-region_of-parts region.ReStatic = refl
-region_of-parts region.ReErased = refl
-region_of-parts (region.ReError e) = refl
+ty_layer_sort : (k : TyKind) → layer_sort (ty_layer k) ≡ ty
+ty_layer_sort k = ap (λ s. label_sort s (ty_layer k).label.word) (ty_sort k)
 
--- a part's label is of its sort
-module _ (t : Tables) where
-  kind_sorted : {K : Type 0} (shape : K → Shape) (kids : K → List Part) (es : List (K × Kept)) (sort : Sort) → ((k : K) → shape_sort (shape k) ≡ sort)
-      → (i : ℕ) (s : Sketch Part) → option_map (sketch_of shape kids) (slice_get es i) ≡ Some s → shape_sort s.shape ≡ sort
-  kind_sorted shape kids es sort all i s e = let p = pair_of (sketch_of shape kids) (slice_get es i) s e in sym (ap (λ (u : Sketch Part). shape_sort u.shape) p.2) ∙ all p.0.0
+const_layer_sort : (k : ConstKind) → layer_sort (const_layer k) ≡ constant
+const_layer_sort k = ap (λ s. label_sort s (const_layer k).label.word) (const_sort k)
 
-  empty_sorted : (k : EmptyList) (i : ℕ) (s : Sketch Part) → empty_at k (slice_get t.empty_lists i) ≡ Some s → shape_sort s.shape ≡ empty_list k
-  empty_sorted k i s e = let p = empty_pair k (slice_get t.empty_lists i) s e in sym (ap (λ (u : Sketch Part). shape_sort u.shape) p.2) ∙ empty_word_sort k
+region_layer_sort : (k : RegionKind) → layer_sort (region_layer k) ≡ region
+region_layer_sort k = ap (λ s. label_sort s (region_layer k).label.word) (region_sort k)
 
-  sorted : (q : Part) (s : Sketch Part) → heap_of t q ≡ Some s → shape_sort s.shape ≡ sort_of q
+-- what holds of each layer of a part's sort holds of the part's
+module _ (t : Tables) (A : Part → Layer Part → Type 0)
+    (ty : (h : Ty) (k : TyKind) → A (part.Ty h) (ty_layer k)) (constant : (h : Const) (k : ConstKind) → A (part.Const h) (const_layer k)) (region : (h : Region) (k : RegionKind) → A (part.Region h) (region_layer k))
+    (tys : (h : Tys) (ts : List Ty) → A (part.Tys h) (tys_layer ts)) (variables : (h : BoundVarKinds) (vs : List BoundVarKind) → A (part.BoundVarKinds h) (variables_layer vs))
+    (variances : (h : VariancesOf) (vs : List Variance) → A (part.VariancesOf h) (variances_layer vs)) (none : (k : EmptyList) (i : ℕ) → A (empty_part k i) (empty_layer k)) where
+  by_key : {K : Type 0} (q : Part) (layer : K → Layer Part) (o : Option (K × Kept)) (s : Sketch Part) → ((k : K) → A q (layer k)) → option_map (sketch_of layer) o ≡ Some s → A q s.layer
+  by_key q layer o s all e = let p = pair_of (sketch_of layer) o s e in subst (λ (u : Sketch Part). A q u.layer) p.2 (all p.0.0)
+
+  by_empty : (k : EmptyList) (i : ℕ) (o : Option (EmptyList × Kept)) (s : Sketch Part) → empty_at k o ≡ Some s → A (empty_part k i) s.layer
+  by_empty k i o s e = let p = empty_pair k o s e in subst (λ (u : Sketch Part). A (empty_part k i) u.layer) p.2 (none k i)
+
+  pub by_sort : (q : Part) (s : Sketch Part) → heap_of t q ≡ Some s → A q s.layer
   unfolding heap_of
-  sorted (part.Ty h) s e = kind_sorted ty_shape ty_kids t.tys ty ty_word_sort h.position s e
-  sorted (part.Const h) s e = kind_sorted const_shape (λ _. []) t.consts constant const_word_sort h.position s e
-  sorted (part.Region h) s e = kind_sorted region_shape (λ _. []) t.regions region_sort region_word_sort h.position s e
-  sorted (part.Tys h) s e = kind_sorted tys_shape tys_kids t.type_lists tys_list (λ _. refl) h.position s e
-  sorted (part.BoundVarKinds h) s e = kind_sorted variables_shape (λ _. []) t.variable_lists variables_list (λ _. refl) h.position s e
-  sorted (part.VariancesOf h) s e = kind_sorted variances_shape (λ _. []) t.variance_lists variances_list (λ _. refl) h.position s e
-  sorted (part.GenericArgs h) s e = empty_sorted empty.GenericArgs h.position s e
-  sorted (part.PatList h) s e = empty_sorted empty.PatList h.position s e
-  sorted (part.BoundExistentialPredicates h) s e = empty_sorted empty.BoundExistentialPredicates h.position s e
-  sorted (part.Clauses h) s e = empty_sorted empty.Clauses h.position s e
-  sorted (part.RegionAssumptions h) s e = empty_sorted empty.RegionAssumptions h.position s e
+  by_sort (part.Ty h) s e = by_key (part.Ty h) ty_layer (slice_get t.tys h.position) s (ty h) e
+  by_sort (part.Const h) s e = by_key (part.Const h) const_layer (slice_get t.consts h.position) s (constant h) e
+  by_sort (part.Region h) s e = by_key (part.Region h) region_layer (slice_get t.regions h.position) s (region h) e
+  by_sort (part.Tys h) s e = by_key (part.Tys h) tys_layer (slice_get t.type_lists h.position) s (tys h) e
+  by_sort (part.BoundVarKinds h) s e = by_key (part.BoundVarKinds h) variables_layer (slice_get t.variable_lists h.position) s (variables h) e
+  by_sort (part.VariancesOf h) s e = by_key (part.VariancesOf h) variances_layer (slice_get t.variance_lists h.position) s (variances h) e
+  by_sort (part.GenericArgs h) s e = by_empty empty.GenericArgs h.position (slice_get t.empty_lists h.position) s e
+  by_sort (part.PatList h) s e = by_empty empty.PatList h.position (slice_get t.empty_lists h.position) s e
+  by_sort (part.BoundExistentialPredicates h) s e = by_empty empty.BoundExistentialPredicates h.position (slice_get t.empty_lists h.position) s e
+  by_sort (part.Clauses h) s e = by_empty empty.Clauses h.position (slice_get t.empty_lists h.position) s e
+  by_sort (part.RegionAssumptions h) s e = by_empty empty.RegionAssumptions h.position (slice_get t.empty_lists h.position) s e
 
-  kidless : {K : Type 0} (shape : K → Shape) (o : Option (K × Kept)) (s : Sketch Part) → option_map (sketch_of shape (λ _. [])) o ≡ Some s → s.kids ≡ []
-  kidless shape o s e = let p = pair_of (sketch_of shape (λ _. [])) o s e in sym (ap (λ (u : Sketch Part). u.kids) p.2)
-
-  empty_kidless : (k : EmptyList) (o : Option (EmptyList × Kept)) (s : Sketch Part) → empty_at k o ≡ Some s → s.kids ≡ []
-  empty_kidless k o s e = let p = empty_pair k o s e in sym (ap (λ (u : Sketch Part). u.kids) p.2)
+module _ (t : Tables) where
+  -- a part's layer is of its sort
+  sorted : (q : Part) (s : Sketch Part) → heap_of t q ≡ Some s → layer_sort s.layer ≡ sort_of q
+  sorted = by_sort t (λ q l. layer_sort l ≡ sort_of q) (λ h. ty_layer_sort) (λ h. const_layer_sort) (λ h. region_layer_sort) (λ h ts. refl) (λ h vs. refl) (λ h vs. refl)
+      empty_part_sort
 
   -- types and lists of types alone have kids
-  pub no_kids : (q : Part) (s : Sketch Part) → heap_of t q ≡ Some s → ((h : Ty) → q ≡ part.Ty h → ⊥) → ((h : Tys) → q ≡ part.Tys h → ⊥) → s.kids ≡ []
+  pub no_kids : (q : Part) (s : Sketch Part) → heap_of t q ≡ Some s → ((h : Ty) → q ≡ part.Ty h → ⊥) → ((h : Tys) → q ≡ part.Tys h → ⊥) → s.layer.kids ≡ []
+  no_kids = by_sort t (λ q l. ((h : Ty) → q ≡ part.Ty h → ⊥) → ((h : Tys) → q ≡ part.Tys h → ⊥) → l.kids ≡ [])
+      (λ h k no_ty no_tys. absurd (no_ty h refl)) (λ h k _ _. refl) (λ h k _ _. refl) (λ h ts no_ty no_tys. absurd (no_tys h refl)) (λ h vs _ _. refl) (λ h vs _ _. refl) (λ k i _ _. refl)
+
+  -- ---- binders
+
+  are_variables : (vs : List BoundVarKind) → are_kinds (map variable_field vs) ≡ true
+  are_variables [] = refl
+  are_variables (v ∷ vs) = are_variables vs
+
+  variables_list_is : (vs : List BoundVarKind) → is_variable_list (variables_layer vs) ≡ true
+  variables_list_is vs = let all = are_variables vs in rw all
+
+  -- a live list of variables binds
+  pub variables_bind : (v : BoundVarKinds) → IsLive (heap_of t) (part.BoundVarKinds v) → is_binder (heap_of t) (Some (part.BoundVarKinds v)) ≡ true
   unfolding heap_of
-  no_kids (part.Ty h) s e no_ty no_tys = absurd (no_ty h refl)
-  no_kids (part.Tys h) s e no_ty no_tys = absurd (no_tys h refl)
-  no_kids (part.Const h) s e no_ty no_tys = kidless const_shape (slice_get t.consts h.position) s e
-  no_kids (part.Region h) s e no_ty no_tys = kidless region_shape (slice_get t.regions h.position) s e
-  no_kids (part.BoundVarKinds h) s e no_ty no_tys = kidless variables_shape (slice_get t.variable_lists h.position) s e
-  no_kids (part.VariancesOf h) s e no_ty no_tys = kidless variances_shape (slice_get t.variance_lists h.position) s e
-  no_kids (part.GenericArgs h) s e no_ty no_tys = empty_kidless empty.GenericArgs (slice_get t.empty_lists h.position) s e
-  no_kids (part.PatList h) s e no_ty no_tys = empty_kidless empty.PatList (slice_get t.empty_lists h.position) s e
-  no_kids (part.BoundExistentialPredicates h) s e no_ty no_tys = empty_kidless empty.BoundExistentialPredicates (slice_get t.empty_lists h.position) s e
-  no_kids (part.Clauses h) s e no_ty no_tys = empty_kidless empty.Clauses (slice_get t.empty_lists h.position) s e
-  no_kids (part.RegionAssumptions h) s e no_ty no_tys = empty_kidless empty.RegionAssumptions (slice_get t.empty_lists h.position) s e
+  variables_bind v live = by (slice_get t.variable_lists v.position) live
+    where
+      by : (o : Option (List BoundVarKind × Kept)) → is_some (option_map (sketch_of variables_layer) o) ≡ true → option_map_or (λ (s : Sketch Part). is_variable_list s.layer) (option_map (sketch_of variables_layer) o) false ≡ true
+      by None l = absurd (true≢false (sym l))
+      by (Some e) l = variables_list_is e.0
+
+  pub ty_binder_ok : (k : TyKind) → Each (IsLive (heap_of t)) (names_in (ty_layer k)) → is_binder (heap_of t) (ty_binder k) ≡ true
+  ty_binder_ok k live = elim (ty_binds k) [
+    | inl none ↦ ap (is_binder (heap_of t)) none
+    | inr some ↦
+        let all : Each (IsLive (heap_of t)) (with_binder (Some (part.BoundVarKinds some.0)) (ty_layer k).kids) = subst (λ o. Each (IsLive (heap_of t)) (with_binder o (ty_layer k).kids)) some.1 live in
+        ap (is_binder (heap_of t)) some.1 ∙ variables_bind some.0 all.0
+  ]
 
 -- ---- a table that gets one more pair
 
@@ -269,18 +235,18 @@ module _ {K : Type 0} (f : K × Kept → Sketch Part) (es : List (K × Kept)) (e
   at_new : option_map f (slice_get (es ++ e ∷ []) (length es)) ≡ Some (f e)
   at_new = ap (option_map f) (slice_get_push es e)
 
--- What a heap says of a sort whose parts have a table of their own: the pair at i is the node of `name (handle i)`, no other part goes by the table, and a kind is told by its shape and kids
-pub record HasTable {K T : Type 0} (name : T → Part) (handle : ℕ → T) (shape : K → Shape) (kids : K → List Part) (heap : List (K × Kept) → Heap Part) : Type 0 where
-  pub at : (es : List (K × Kept)) (i : ℕ) → heap es (name (handle i)) ≡ option_map (sketch_of shape kids) (slice_get es i)
+-- What a heap says of a sort whose parts have a table of their own: the pair at i is the node of `name (handle i)`, no other part goes by the table, and a kind is told by its layer
+pub record HasTable {K T : Type 0} (name : T → Part) (handle : ℕ → T) (layer : K → Layer Part) (heap : List (K × Kept) → Heap Part) : Type 0 where
+  pub at : (es : List (K × Kept)) (i : ℕ) → heap es (name (handle i)) ≡ option_map (sketch_of layer) (slice_get es i)
   pub others : (es fs : List (K × Kept)) (q : Part) → ((i : ℕ) × (q ≡ name (handle i))) ⊎ (heap es q ≡ heap fs q)
-  pub own : (es : List (K × Kept)) (k : K) (q : Part) (s : Sketch Part) → heap es q ≡ Some s → s.shape ≡ shape k → (i : ℕ) × (q ≡ name (handle i))
-  pub told : (k l : K) → shape k ≡ shape l → kids k ≡ kids l → k ≡ l
+  pub own : (es : List (K × Kept)) (k : K) (q : Part) (s : Sketch Part) → heap es q ≡ Some s → s.layer ≡ layer k → (i : ℕ) × (q ≡ name (handle i))
+  pub told : (k l : K) → layer k ≡ layer l → k ≡ l
 
-module _ {K T : Type 0} {name : T → Part} {handle : ℕ → T} {shape : K → Shape} {kids : K → List Part} {heap : List (K × Kept) → Heap Part} (table : HasTable name handle shape kids heap) where
-  pub table_adds : (es : List (K × Kept)) (e : K × Kept) → Adds (heap es) (heap (es ++ e ∷ [])) (name (handle (length es))) (sketch_of shape kids e)
+module _ {K T : Type 0} {name : T → Part} {handle : ℕ → T} {layer : K → Layer Part} {heap : List (K × Kept) → Heap Part} (table : HasTable name handle layer heap) where
+  pub table_adds : (es : List (K × Kept)) (e : K × Kept) → Adds (heap es) (heap (es ++ e ∷ [])) (name (handle (length es))) (sketch_of layer e)
   table_adds es e = record {
-    before = table.at es (length es) ∙ at_end (sketch_of shape kids) es e;
-    after = table.at (es ++ e ∷ []) (length es) ∙ at_new (sketch_of shape kids) es e;
+    before = table.at es (length es) ∙ at_end (sketch_of layer) es e;
+    after = table.at (es ++ e ∷ []) (length es) ∙ at_new (sketch_of layer) es e;
     others = λ q. by q (table.others es (es ++ e ∷ []) q);
   }
     where
@@ -288,19 +254,19 @@ module _ {K T : Type 0} {name : T → Part} {handle : ℕ → T} {shape : K → 
       by q (inr same) = inr (sym same)
       by q (inl here) = elim (slice_get_push_other es e here.0) [
         | inl last ↦ inl (here.1 ∙ ap (λ i. name (handle i)) last)
-        | inr same ↦ inr (ap (heap (es ++ e ∷ [])) here.1 ∙ table.at (es ++ e ∷ []) here.0 ∙ ap (option_map (sketch_of shape kids)) same ∙ sym (table.at es here.0) ∙ ap (heap es) (sym here.1))
+        | inr same ↦ inr (ap (heap (es ++ e ∷ [])) here.1 ∙ table.at (es ++ e ∷ []) here.0 ∙ ap (option_map (sketch_of layer)) same ∙ sym (table.at es here.0) ∙ ap (heap es) (sym here.1))
       ]
 
   -- where no pair has the kind, no part has its node
-  pub table_fresh : (es : List (K × Kept)) (k : K) → HasNoKey es k → (q : Part) (s : Sketch Part) → heap es q ≡ Some s → s.shape ≡ shape k → s.kids ≡ kids k → ⊥
-  table_fresh es k lacks q s e shapes all_kids =
-      let here = table.own es k q s e shapes in
-      let p = pair_of (sketch_of shape kids) (slice_get es here.0) s (sym (table.at es here.0) ∙ ap (heap es) (sym here.1) ∙ e) in
-      let same : p.0.0 ≡ k = table.told p.0.0 k (ap (λ (u : Sketch Part). u.shape) p.2 ∙ shapes) (ap (λ (u : Sketch Part). u.kids) p.2 ∙ all_kids) in
+  pub table_fresh : (es : List (K × Kept)) (k : K) → HasNoKey es k → (q : Part) (s : Sketch Part) → heap es q ≡ Some s → s.layer ≡ layer k → ⊥
+  table_fresh es k lacks q s e layers =
+      let here = table.own es k q s e layers in
+      let p = pair_of (sketch_of layer) (slice_get es here.0) s (sym (table.at es here.0) ∙ ap (heap es) (sym here.1) ∙ e) in
+      let same : p.0.0 ≡ k = table.told p.0.0 k (ap (λ (u : Sketch Part). u.layer) p.2 ∙ layers) in
       lacks here.0 (p.0.1, p.1 ∙ ap (λ j. Some (j, p.0.1)) same)
 
-  pub table_at : (es : List (K × Kept)) (i : ℕ) (k : K) (c : Kept) → slice_get es i ≡ Some (k, c) → heap es (name (handle i)) ≡ Some (sketch_of shape kids (k, c))
-  table_at es i k c e = table.at es i ∙ ap (option_map (sketch_of shape kids)) e
+  pub table_at : (es : List (K × Kept)) (i : ℕ) (k : K) (c : Kept) → slice_get es i ≡ Some (k, c) → heap es (name (handle i)) ≡ Some (sketch_of layer (k, c))
+  table_at es i k c e = table.at es i ∙ ap (option_map (sketch_of layer)) e
 
 -- a live name lies within its table
 pub live_within : {K : Type 0} (f : K × Kept → Sketch Part) (es : List (K × Kept)) (i : ℕ) → is_some (option_map f (slice_get es i)) ≡ true → i < length es
@@ -350,7 +316,7 @@ is_const : (q : Part) → sort_of q ≡ constant → (i : ℕ) × (q ≡ part.Co
 is_const (part.Const h) e = (h.position, refl)
 is_const _ e = absurd cc
 
-is_region : (q : Part) → sort_of q ≡ region_sort → (i : ℕ) × (q ≡ part.Region (record { position = i }))
+is_region : (q : Part) → sort_of q ≡ region → (i : ℕ) × (q ≡ part.Region (record { position = i }))
 is_region (part.Region h) e = (h.position, refl)
 is_region _ e = absurd cc
 
@@ -367,11 +333,14 @@ is_variances (part.VariancesOf h) e = (h.position, refl)
 is_variances _ e = absurd cc
 
 -- each is told by its field
-field_told : {X : Type 0} (f : X → Field SolverDefId) → ((x y : X) → f x ≡ f y → x ≡ y) → (w : Word) (xs ys : List X) → shape w (map f xs) ≡ shape w (map f ys) → xs ≡ ys
-field_told f one w xs ys e = map_injective f one xs ys (ap (λ (s : Shape). s.label.fields) e)
+field_told : {X : Type 0} (f : X → Field SolverDefId) → ((x y : X) → f x ≡ f y → x ≡ y) → (w : Word) (xs ys : List X) → layer w (map f xs) [] ≡ layer w (map f ys) [] → xs ≡ ys
+field_told f one w xs ys e = map_injective f one xs ys (ap (λ (l : Layer Part). l.label.fields) e)
 
 variable_told : (x y : BoundVarKind) → variable_field x ≡ variable_field y → x ≡ y
-variable_told (variable.Region bound_region.ClosureEnv) (variable.Region bound_region.ClosureEnv) e = refl
+variable_told x y e = sym (variable_back x) ∙ ap variable_in (kind_of e) ∙ variable_back y
+  where
+    kind_of : variable_field x ≡ variable_field y → variable_seen x ≡ variable_seen y
+    kind_of e = cc e
 
 variance_of : Field SolverDefId → Variance
 variance_of (Chosen Covariant) = variance.Covariant
@@ -390,58 +359,58 @@ variance_told : (x y : Variance) → variance_field x ≡ variance_field y → x
 variance_told x y e = sym (variance_back x) ∙ ap variance_of e ∙ variance_back y
 
 module _ (t : Tables) where
-  pub ty_table : HasTable part.Ty (λ i. record { position = i }) ty_shape ty_kids (λ es. heap_of (with_tys t es))
+  pub ty_table : HasTable part.Ty (λ i. record { position = i }) ty_layer (λ es. heap_of (with_tys t es))
   unfolding heap_of
   ty_table = record {
     at = λ es i. refl;
     others = λ es fs. elim [ part.Ty h ↦ inl (h.position, refl) | _ ↦ inr refl ];
-    own = λ es k q s e shapes. is_ty q (sym (sorted (with_tys t es) q s e) ∙ ap shape_sort shapes ∙ ty_word_sort k);
-    told = λ k l x z. sym (ty_of-parts k) ∙ (λ i. ty_of (x i).label.word (x i).label.fields (z i)) ∙ ty_of-parts l;
+    own = λ es k q s e layers. is_ty q (sym (sorted (with_tys t es) q s e) ∙ ap layer_sort layers ∙ ty_layer_sort k);
+    told = λ k l x. sym (ty_of-parts k) ∙ ap (λ (m : Layer Part). ty_of m.label.word m.label.fields m.binder m.kids) x ∙ ty_of-parts l;
   }
 
-  pub const_table : HasTable part.Const (λ i. record { position = i }) const_shape (λ _. []) (λ es. heap_of (with_consts t es))
+  pub const_table : HasTable part.Const (λ i. record { position = i }) const_layer (λ es. heap_of (with_consts t es))
   unfolding heap_of
   const_table = record {
     at = λ es i. refl;
     others = λ es fs. elim [ part.Const h ↦ inl (h.position, refl) | _ ↦ inr refl ];
-    own = λ es k q s e shapes. is_const q (sym (sorted (with_consts t es) q s e) ∙ ap shape_sort shapes ∙ const_word_sort k);
-    told = λ k l x z. const_told k l;
+    own = λ es k q s e layers. is_const q (sym (sorted (with_consts t es) q s e) ∙ ap layer_sort layers ∙ const_layer_sort k);
+    told = λ k l x. sym (const_of-parts k) ∙ ap (λ (m : Layer Part). const_of m.label.word m.label.fields) x ∙ const_of-parts l;
   }
 
-  pub region_table : HasTable part.Region (λ i. record { position = i }) region_shape (λ _. []) (λ es. heap_of (with_regions t es))
+  pub region_table : HasTable part.Region (λ i. record { position = i }) region_layer (λ es. heap_of (with_regions t es))
   unfolding heap_of
   region_table = record {
     at = λ es i. refl;
     others = λ es fs. elim [ part.Region h ↦ inl (h.position, refl) | _ ↦ inr refl ];
-    own = λ es k q s e shapes. is_region q (sym (sorted (with_regions t es) q s e) ∙ ap shape_sort shapes ∙ region_word_sort k);
-    told = λ k l x z. sym (region_of-parts k) ∙ ap (λ (s : Shape). region_of s.label.word) x ∙ region_of-parts l;
+    own = λ es k q s e layers. is_region q (sym (sorted (with_regions t es) q s e) ∙ ap layer_sort layers ∙ region_layer_sort k);
+    told = λ k l x. sym (region_of-parts k) ∙ ap (λ (m : Layer Part). region_of m.label.word m.label.fields) x ∙ region_of-parts l;
   }
 
-  pub tys_table : HasTable part.Tys (λ i. record { position = i }) tys_shape tys_kids (λ es. heap_of (with_type_lists t es))
+  pub tys_table : HasTable part.Tys (λ i. record { position = i }) tys_layer (λ es. heap_of (with_type_lists t es))
   unfolding heap_of
   tys_table = record {
     at = λ es i. refl;
     others = λ es fs. elim [ part.Tys h ↦ inl (h.position, refl) | _ ↦ inr refl ];
-    own = λ es k q s e shapes. is_tys q (sym (sorted (with_type_lists t es) q s e) ∙ ap shape_sort shapes);
-    told = λ k l x z. map_injective part.Ty (λ a b w. cc w) k l z;
+    own = λ es k q s e layers. is_tys q (sym (sorted (with_type_lists t es) q s e) ∙ ap layer_sort layers);
+    told = λ k l x. map_injective part.Ty (λ a b w. cc w) k l (ap (λ (m : Layer Part). m.kids) x);
   }
 
-  pub variables_table : HasTable part.BoundVarKinds (λ i. record { position = i }) variables_shape (λ _. []) (λ es. heap_of (with_variable_lists t es))
+  pub variables_table : HasTable part.BoundVarKinds (λ i. record { position = i }) variables_layer (λ es. heap_of (with_variable_lists t es))
   unfolding heap_of
   variables_table = record {
     at = λ es i. refl;
     others = λ es fs. elim [ part.BoundVarKinds h ↦ inl (h.position, refl) | _ ↦ inr refl ];
-    own = λ es k q s e shapes. is_variables q (sym (sorted (with_variable_lists t es) q s e) ∙ ap shape_sort shapes);
-    told = λ k l x z. field_told variable_field variable_told VariableList k l x;
+    own = λ es k q s e layers. is_variables q (sym (sorted (with_variable_lists t es) q s e) ∙ ap layer_sort layers);
+    told = λ k l x. field_told variable_field variable_told VariableList k l x;
   }
 
-  pub variances_table : HasTable part.VariancesOf (λ i. record { position = i }) variances_shape (λ _. []) (λ es. heap_of (with_variance_lists t es))
+  pub variances_table : HasTable part.VariancesOf (λ i. record { position = i }) variances_layer (λ es. heap_of (with_variance_lists t es))
   unfolding heap_of
   variances_table = record {
     at = λ es i. refl;
     others = λ es fs. elim [ part.VariancesOf h ↦ inl (h.position, refl) | _ ↦ inr refl ];
-    own = λ es k q s e shapes. is_variances q (sym (sorted (with_variance_lists t es) q s e) ∙ ap shape_sort shapes);
-    told = λ k l x z. field_told variance_field variance_told VarianceList k l x;
+    own = λ es k q s e layers. is_variances q (sym (sorted (with_variance_lists t es) q s e) ∙ ap layer_sort layers);
+    told = λ k l x. field_told variance_field variance_told VarianceList k l x;
   }
 
 -- ---- the empty lists, which share a table
@@ -484,11 +453,11 @@ module _ (t : Tables) where
       by (inr same) b test = inr (ap (empty_at k) same)
       by (inl last) true test = inl (λ j. empty_part (sym (empty_same e.0 k test) j) (last j))
       by (inl last) false test = inr (
-          ap (λ j. empty_at k (slice_get (es ++ e ∷ []) j)) last ∙ ap (empty_at k) (slice_get_push es e) ∙ ap (λ b. if b then Some (sketch_of empty_shape (λ _. []) e) else None) test
+          ap (λ j. empty_at k (slice_get (es ++ e ∷ []) j)) last ∙ ap (empty_at k) (slice_get_push es e) ∙ ap (λ b. if b then Some (sketch_of empty_layer e) else None) test
           ∙ sym (ap (λ j. empty_at k (slice_get es j)) last ∙ ap (empty_at k) (slice_get_end es))
           )
 
-  pub empty_adds : (es : List (EmptyList × Kept)) (e : EmptyList × Kept) → Adds (heap_of (with_empty_lists t es)) (heap_of (with_empty_lists t (es ++ e ∷ []))) (empty_part e.0 (length es)) (sketch_of empty_shape (λ _. []) e)
+  pub empty_adds : (es : List (EmptyList × Kept)) (e : EmptyList × Kept) → Adds (heap_of (with_empty_lists t es)) (heap_of (with_empty_lists t (es ++ e ∷ []))) (empty_part e.0 (length es)) (sketch_of empty_layer e)
   empty_adds es e = record {
     before = heap_empty es e.0 (length es) ∙ ap (empty_at e.0) (slice_get_end es);
     after = heap_empty (es ++ e ∷ []) e.0 (length es) ∙ ap (empty_at e.0) (slice_get_push es e) ∙ empty_here e.0 e.1;
@@ -503,13 +472,13 @@ module _ (t : Tables) where
         | inr same ↦ inr (ap (heap_of (with_empty_lists t (es ++ e ∷ []))) here.2 ∙ heap_empty (es ++ e ∷ []) here.0 here.1 ∙ same ∙ sym (heap_empty es here.0 here.1) ∙ ap (heap_of (with_empty_lists t es)) (sym here.2))
       ]
 
-  pub empty_fresh : (es : List (EmptyList × Kept)) (k : EmptyList) → HasNoKey es k → (q : Part) (s : Sketch Part) → heap_of (with_empty_lists t es) q ≡ Some s → s.shape ≡ empty_shape k → s.kids ≡ [] → ⊥
-  empty_fresh es k lacks q s e shapes kids =
-      let here = is_empty k q (sym (sorted (with_empty_lists t es) q s e) ∙ ap shape_sort shapes ∙ empty_word_sort k) in
+  pub empty_fresh : (es : List (EmptyList × Kept)) (k : EmptyList) → HasNoKey es k → (q : Part) (s : Sketch Part) → heap_of (with_empty_lists t es) q ≡ Some s → s.layer ≡ empty_layer k → ⊥
+  empty_fresh es k lacks q s e layers =
+      let here = is_empty k q (sym (sorted (with_empty_lists t es) q s e) ∙ ap layer_sort layers ∙ empty_word_sort k) in
       let p = empty_pair k (slice_get es here.0) s (sym (heap_empty es k here.0) ∙ ap (heap_of (with_empty_lists t es)) (sym here.1) ∙ e) in
       lacks here.0 (p.0, p.1)
 
-  pub empty_stands : (es : List (EmptyList × Kept)) (i : ℕ) (k : EmptyList) (c : Kept) → slice_get es i ≡ Some (k, c) → heap_of (with_empty_lists t es) (empty_part k i) ≡ Some (sketch_of empty_shape (λ _. []) (k, c))
+  pub empty_stands : (es : List (EmptyList × Kept)) (i : ℕ) (k : EmptyList) (c : Kept) → slice_get es i ≡ Some (k, c) → heap_of (with_empty_lists t es) (empty_part k i) ≡ Some (sketch_of empty_layer (k, c))
   empty_stands es i k c e = heap_empty es k i ∙ ap (empty_at k) e ∙ empty_here k c
 
 -- ---- tables with no pairs
@@ -524,10 +493,13 @@ nothing_held = elim [ part.Ty h ↦ refl | _ ↦ refl ]
 pub empty_sound : IsSound (heap_of no_tables)
 empty_sound = record {
   kids = λ p s e. absurd (none-some s (sym (nothing_held p) ∙ e));
+  binder = λ p s e. absurd (none-some s (sym (nothing_held p) ∙ e));
   height = λ p s e. absurd (none-some s (sym (nothing_held p) ∙ e));
   size = λ p s e. absurd (none-some s (sym (nothing_held p) ∙ e));
-  distinct = λ p q s t e f a b. absurd (none-some s (sym (nothing_held p) ∙ e));
+  flags = λ p s e. absurd (none-some s (sym (nothing_held p) ∙ e));
+  outer = λ p s e. absurd (none-some s (sym (nothing_held p) ∙ e));
+  distinct = λ p q s t e f a. absurd (none-some s (sym (nothing_held p) ∙ e));
 }
 
-pub empty_low : (n : ℕ) (p : Part) → IsLive (heap_of no_tables) p → cached_height (heap_of no_tables) p ≤ n
-empty_low n p live = absurd (true≢false (sym live ∙ ap is_some (nothing_held p)))
+pub empty_low : (s : State) (p : Part) → IsLive (heap_of no_tables) p → fits s (tree_of (heap_of no_tables) p) ≡ true
+empty_low s p live = absurd (true≢false (sym live ∙ ap is_some (nothing_held p)))

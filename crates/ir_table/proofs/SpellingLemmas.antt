@@ -1,5 +1,5 @@
 -- What stands behind a text while a part is spelled, and what remains to be spelled.
-use Rattle.std.proofs.Common.{◌≡◌, ◌∙◌, sym, ap, refl, subst, ℕ, zero, suc, ◌+◌, ◌-◌, ◌<◌, ◌≤◌, arith, Bool, true, false, nat_eq, List, [], ◌∷◌, ◌++◌, length, get_or, take, drop, map, slice_get, codes, Option, None, Some, Result, Ok, Err, OnOk, OnErr}
+use Rattle.std.proofs.Common.{◌≡◌, ◌∙◌, sym, ap, refl, subst, ℕ, zero, suc, ◌+◌, ◌-◌, ◌*◌, ◌<◌, ◌≤◌, arith, Bool, true, false, nat_eq, List, [], ◌∷◌, ◌++◌, length, get_or, take, drop, map, slice_get, codes, Option, None, Some, Result, Ok, Err, OnOk, OnErr}
 use Rattle.std.proofs.Math.Seq.{take-append_seam, take-length}
 use Rattle.std.proofs.lemmas.Bool.Decides.{nat_tests}
 use Rattle.std.proofs.lemmas.List.{append_assoc, append-nil, drop_more, length-take, take-append-drop, take-append-le}
@@ -12,37 +12,37 @@ use Rattle.ir_core.specs.declared.handles.Ty.{Ty}
 use Rattle.ir_core.specs.declared.handles.Part.{Part}
 use Rattle.ir_core.specs.declared.handles.Part.TheVariants as part
 use Rattle.ir_core.specs.declared.kinds.TyKind.{TyKind}
-use Rattle.ir_core.specs.declared.kinds.TyKind.TheVariants as kind
 use Rattle.ir_core.specs.declared.kinds.ConstKind.{ConstKind}
-use Rattle.ir_core.specs.declared.kinds.ConstKind.TheVariants as konst
 use Rattle.ir_core.specs.declared.kinds.RegionKind.{RegionKind}
-use Rattle.ir_core.specs.declared.kinds.RegionKind.TheVariants as region
-use Rattle.ir_core.specs.declared.kinds.IntTy.TheVariants as int
-use Rattle.ir_core.specs.declared.kinds.UintTy.TheVariants as uint
-use Rattle.ir_core.specs.declared.kinds.FloatTy.TheVariants as float
+use Rattle.ir_core.specs.declared.variables.BoundVarKind.{BoundVarKind}
 use Rattle.ir_laws.specs.declared.labels.Part.{Part as LabelPart}
 use Rattle.ir_laws.specs.declared.labels.Part.TheVariants.{Fixed, ForGroup, AField, AKid}
 use Rattle.ir_laws.specs.declared.labels.FixedWord.{FixedWord}
 use Rattle.ir_laws.specs.declared.labels.FieldForm.{FieldForm}
 use Rattle.ir_laws.specs.declared.labels.KidForm.{KidForm}
-use Rattle.ir_laws.specs.Tree.{Text, Term}
+use Rattle.ir_laws.specs.Tree.{Text, Label, Term}
 use Rattle.ir_laws.specs.Keyword.{fixed_text}
 use Rattle.ir_laws.specs.Label.{row}
-use Rattle.ir_laws.specs.Spelling.{bind_texts, field_text, in_brackets, label_text, part_texts, spaced, spell, spell_each, word_text}
-use Rattle.ir_laws.specs.Counts.{sort_of}
+use Rattle.ir_laws.specs.Spelling.{bind_text, bind_texts, field_text, in_brackets, kind_text, label_text, part_texts, spaced, spell, spell_each, word_text}
+use Rattle.ir_laws.specs.Counts.{sort_of, sort_of_label}
 use Rattle.ir_laws.specs.Same.{same_sort}
-use Rattle.ir_laws.specs.declared.labels.Sort.TheVariants.{OfList}
-use Rattle.ir_laws.specs.Heap.{Shape, Heap, HasNode, Each, IsLive, IsSound, plant, cached_height, forest, largest, tree_of}
-use Rattle.ir_laws.proofs.HeapLemmas.{Each-both, Each-largest, node_of, tree_of-node}
+use Rattle.ir_laws.specs.declared.labels.Sort.{Sort}
+use Rattle.ir_laws.specs.declared.labels.Sort.TheVariants.{OfType, OfRegion, OfConstant, OfList}
+use Rattle.ir_laws.specs.Heap.{Heap, Layer, HasNode, Each, IsLive, IsSound, cached_height, forest, kinds_among, kinds_at, largest, names_in, shape_over, tree_of, with_binder}
+use Rattle.ir_laws.proofs.HeapLemmas.{Each-both, Each-largest, held_node, node_of, tree_of-node, kinds_at_node}
+use Rattle.ir_table.proofs.NodeLemmas.{kinds_of_fields}
+use Rattle.ir_laws.proofs.PlantLemmas.{sort-plant, spell-plant}
+use Rattle.ir_core.specs.declared.handles.BoundVarKinds.{BoundVarKinds}
 use Rattle.ir_core.specs.declared.handles.Const.{Const}
 use Rattle.ir_core.specs.declared.handles.Region.{Region}
 use Rattle.ir_core.specs.declared.handles.Tys.{Tys}
 use Rattle.ir_table.specs.declared.store.Tables.{Tables}
 use Rattle.ir_table.specs.Fits.{part_sort}
 use Rattle.ir_table.proofs.CallerLemmas.{live_sort}
+use Rattle.ir_table.proofs.KindLemmas.{ty_sort, const_sort, region_sort}
 use Rattle.ir_table.proofs.PartLemmas.{no_kids}
 use Rattle.ir_table.specs.declared.parts.Node.{Node}
-use Rattle.ir_table.specs.Kinds.{heap_of, field_seen, fields_of, node_kids, node_shape, ty_shape, const_shape, region_shape, tys_kids, tys_shape}
+use Rattle.ir_table.specs.Kinds.{heap_of, field_seen, fields_of, kids_of, node_layer, ty_layer, const_layer, region_layer, tys_kids, tys_layer, variable_seen, variables_layer}
 use Rattle.ir_table.specs.Spelled.{Begins, IsNoList, after_each, kid_texts, list_text, node_text, places_text}
 
 -- ---- what was there comes first still
@@ -75,7 +75,7 @@ module _ {T : Type 0} where
 
 -- ---- spaces and brackets
 
-spaced-after_each : (w : Text) (ts : List Text) → spaced (w ∷ ts) ≡ w ++ after_each ts
+pub spaced-after_each : (w : Text) (ts : List Text) → spaced (w ∷ ts) ≡ w ++ after_each ts
 spaced-after_each w [] = sym (append-nil w)
 spaced-after_each w (t ∷ ts) = ap (λ x. (w ++ codes " ") ++ x) (spaced-after_each t ts) ∙ append_assoc w (codes " ") (t ++ after_each ts)
 
@@ -104,80 +104,62 @@ word_text-places w (p ∷ ps) fields bind kids e = refl
 
 module _ (name : SolverDefId → Text) (h : Heap Part) where
   -- the code's node is spelled as the tree of its part
-  pub node_spelled : (p : Part) (shape : Shape) (kids : List Part) → HasNode h p shape kids → (s : Shape) (ks : List Part) → s ≡ shape → ks ≡ kids → node_text name h s ks ≡ spell name (tree_of h p)
+  pub node_spelled : (p : Part) (l : Layer Part) → HasNode h p l → (m : Layer Part) → m ≡ l → node_text name h m ≡ spell name (tree_of h p)
   unfolding node_text
-  node_spelled p shape kids has s ks a b =
-      (λ i. node_text name h (a i) (b i))
-      ∙ ap (label_text name shape.label shape.bind) (sym (spell_each-forest name (tree_of h) kids))
+  node_spelled p l has m same =
+      ap (node_text name h) same
+      ∙ ap (label_text name l.label (shape_over h l).bind) (sym (spell_each-forest name (tree_of h) l.kids))
+      ∙ sym (spell-plant name (shape_over h l) (forest (tree_of h) l.kids))
       ∙ ap (spell name) (sym has.tree)
 
-  pub list_spelled : (p : Part) (tys : List Ty) → HasNode h p (tys_shape tys) (tys_kids tys) → list_text name h tys ≡ spell name (tree_of h p)
+  pub list_spelled : (p : Part) (tys : List Ty) → HasNode h p (tys_layer tys) → list_text name h tys ≡ spell name (tree_of h p)
   unfolding node_text list_text
-  list_spelled p tys has = node_spelled p (tys_shape tys) (tys_kids tys) has (tys_shape tys) (tys_kids tys) refl refl
+  list_spelled p tys has = node_spelled p (tys_layer tys) has (tys_layer tys) refl
 
-  module _ (n : Node) (no_list : IsNoList (node_shape n)) where
-    word_of_node : node_text name h (node_shape n) (node_kids n)
-        ≡ word_text (row n.word).text (row n.word).parts (map (field_text name) (map field_seen (fields_of n.fields))) None (kid_texts name h (node_kids n))
+  module _ (n : Node) (no_list : IsNoList (node_layer n).label) where
+    abbrev said : Text → List LabelPart → Text
+    said w ps = word_text w ps (map (field_text name) (map field_seen (fields_of n.fields))) (bind_texts name (shape_over h (node_layer n)).bind) (kid_texts name h (kids_of n.kids))
+
+    word_of_node : node_text name h (node_layer n) ≡ said (row n.word).text (row n.word).parts
     unfolding node_text IsNoList
     word_of_node =
-        let F : Bool → Text = λ b. elim b [
-          | true ↦ in_brackets (kid_texts name h (node_kids n))
-          | false ↦ word_text (row n.word).text (row n.word).parts (map (field_text name) (map field_seen (fields_of n.fields))) None (kid_texts name h (node_kids n))
-        ] in ap F no_list
+        let F : Bool → Text = λ b. elim b [ true ↦ in_brackets (kid_texts name h (kids_of n.kids)) | false ↦ said (row n.word).text (row n.word).parts ] in ap F no_list
 
     module _ (word : Text) (parts : List LabelPart) (text : word ≡ (row n.word).text) (places : parts ≡ (row n.word).parts) where
-      by_words : (w : Text) (ps : List LabelPart) → w ≡ (row n.word).text → ps ≡ (row n.word).parts
-          → node_text name h (node_shape n) (node_kids n) ≡ word_text w ps (map (field_text name) (map field_seen (fields_of n.fields))) None (kid_texts name h (node_kids n))
-      by_words w ps a b = word_of_node ∙ (λ i. word_text (sym a i) (sym b i) (map (field_text name) (map field_seen (fields_of n.fields))) None (kid_texts name h (node_kids n)))
+      by_words : node_text name h (node_layer n) ≡ said word parts
+      by_words = word_of_node ∙ (λ i. said (sym text i) (sym places i))
 
-      pub bare_node : nat_eq (length parts) 0 ≡ true → word ≡ node_text name h (node_shape n) (node_kids n)
-      bare_node empty = sym (by_words word parts text places ∙ word_text-bare word parts _ None _ empty)
+      pub bare_node : nat_eq (length parts) 0 ≡ true → word ≡ node_text name h (node_layer n)
+      bare_node empty = sym (by_words ∙ word_text-bare word parts _ _ _ empty)
 
       pub whole_node : (out begun placed : Text) → nat_eq (length parts) 0 ≡ false → begun ≡ out ++ (codes "(" ++ word) → placed ≡ begun ++ places_text name h parts n
-          → placed ++ codes ")" ≡ out ++ node_text name h (node_shape n) (node_kids n)
+          → placed ++ codes ")" ≡ out ++ node_text name h (node_layer n)
       unfolding places_text
       whole_node out begun placed full a b =
           ap (λ x. x ++ codes ")") (b ∙ ap (λ x. x ++ places_text name h parts n) a)
-          ∙ in_brackets-after_each out word (part_texts parts (map (field_text name) (map field_seen (fields_of n.fields))) None (kid_texts name h (node_kids n)))
-          ∙ ap (λ x. out ++ x) (sym (by_words word parts text places ∙ word_text-places word parts _ None _ full))
+          ∙ in_brackets-after_each out word (part_texts parts (map (field_text name) (map field_seen (fields_of n.fields))) (bind_texts name (shape_over h (node_layer n)).bind) (kid_texts name h (kids_of n.kids)))
+          ∙ ap (λ x. out ++ x) (sym (by_words ∙ word_text-places word parts _ _ _ full))
 
--- the kinds of types and of regions are no lists
-pub ty_no_list : (k : TyKind) → IsNoList (ty_shape k)
-unfolding IsNoList
-ty_no_list kind.Bool = refl
-ty_no_list kind.Char = refl
-ty_no_list (kind.Int int.I8) = refl
-ty_no_list (kind.Int int.I16) = refl
-ty_no_list (kind.Int int.I32) = refl
-ty_no_list (kind.Int int.I64) = refl
-ty_no_list (kind.Int int.I128) = refl
-ty_no_list (kind.Int int.Isize) = refl
-ty_no_list (kind.Uint uint.U8) = refl
-ty_no_list (kind.Uint uint.U16) = refl
-ty_no_list (kind.Uint uint.U32) = refl
-ty_no_list (kind.Uint uint.U64) = refl
-ty_no_list (kind.Uint uint.U128) = refl
-ty_no_list (kind.Uint uint.Usize) = refl
-ty_no_list (kind.Float float.F16) = refl
-ty_no_list (kind.Float float.F32) = refl
-ty_no_list (kind.Float float.F64) = refl
-ty_no_list (kind.Float float.F128) = refl
-ty_no_list kind.Str = refl
-ty_no_list (kind.RawPtr t m) = refl
-ty_no_list (kind.Ref r t m) = refl
-ty_no_list kind.Never = refl
-ty_no_list (kind.Tuple ts) = refl
-ty_no_list (kind.Error e) = refl
+-- its kids are lower, as the measure counts
+pub node_lower : (h : Heap Part) (p q : Part) → p ≡ q → (l : Layer Part) → HasNode h q l → (m : Layer Part) → m ≡ l → 3 * largest (cached_height h) m.kids + 2 < 3 * cached_height h p
+node_lower h p q same l has m e =
+    let here = ap (cached_height h) same in
+    let height = has.height in
+    let kids = ap (λ (n : Layer Part). largest (cached_height h) n.kids) e in omega arith
 
-pub region_no_list : (k : RegionKind) → IsNoList (region_shape k)
+-- the kinds of types, of regions and of constants are no lists
+no_list : (s : Sort) → same_sort s OfList ≡ false → (l : Label SolverDefId) → sort_of_label l ≡ s → IsNoList l
 unfolding IsNoList
-region_no_list region.ReStatic = refl
-region_no_list region.ReErased = refl
-region_no_list (region.ReError e) = refl
+no_list s other l e = ap (λ x. same_sort x OfList) e ∙ other
 
-pub const_no_list : (k : ConstKind) → IsNoList (const_shape k)
-unfolding IsNoList
-const_no_list (konst.Error e) = refl
+pub ty_no_list : (k : TyKind) → IsNoList (ty_layer k).label
+ty_no_list k = no_list OfType refl (ty_layer k).label (ty_sort k)
+
+pub region_no_list : (k : RegionKind) → IsNoList (region_layer k).label
+region_no_list k = no_list OfRegion refl (region_layer k).label (region_sort k)
+
+pub const_no_list : (k : ConstKind) → IsNoList (const_layer k).label
+const_no_list k = no_list OfConstant refl (const_layer k).label (const_sort k)
 
 -- ---- the places of a node
 
@@ -197,37 +179,88 @@ one_more out new said text whole ts us same put next e =
     ap (λ x. x ++ after_each ts) (put ∙ ap (λ x. out ++ (codes " " ++ x)) same) ∙ append_assoc out (codes " " ++ text) (after_each ts) ∙ sym (ap (λ x. out ++ after_each x) next) ∙ e
 
 -- a space and a text, put one after the other
-put_both : (out mid text new : Text) → mid ≡ out ++ codes " " → new ≡ mid ++ text → new ≡ out ++ (codes " " ++ text)
+pub put_both : (out mid text new : Text) → mid ≡ out ++ codes " " → new ≡ mid ++ text → new ≡ out ++ (codes " " ++ text)
 put_both out mid text new a b = b ∙ ap (λ x. x ++ text) a ∙ append_assoc out (codes " ") text
+
+-- one item more, of those that remained before the bracket
+pub item_step : {X Y : Type 0} (f : Y → Text) (g : X → Y) (out mid new whole : Text) (xs : List X) (i : ℕ) (d : X) → i < length xs → mid ≡ out ++ codes " " → new ≡ mid ++ f (g (get_or xs i d))
+    → (out ++ after_each (drop i (map f (map g xs)))) ++ codes ")" ≡ whole → (new ++ after_each (drop (i + 1) (map f (map g xs)))) ++ codes ")" ≡ whole
+item_step f g out mid new whole xs i d within a b e =
+    let text : Text = f (g (get_or xs i d)) in
+    let next = drop_at_maps f g xs i (get_or xs i d) (slice_get-get_or xs i d within) in
+    ap (λ x. x ++ codes ")") (one_more out new text text _ _ _ refl (put_both out mid text new a b) next refl) ∙ e
 
 module _ (parts : List LabelPart) (i : ℕ) (d : LabelPart) (within : i < length parts) where
   at_place : (p : LabelPart) → get_or parts i d ≡ p → drop i parts ≡ p ∷ drop (i + 1) parts
   at_place p e = drop_more parts i d within ∙ ap (λ q. q ∷ drop (i + 1) parts) e
 
   module _ (out new whole : Text) where
-    pub fixed_step : (fields kids : List Text) (w : FixedWord) (said : Text) → get_or parts i d ≡ Fixed w → said ≡ fixed_text w → new ≡ out ++ (codes " " ++ said)
-        → out ++ after_each (part_texts (drop i parts) fields None kids) ≡ whole → new ++ after_each (part_texts (drop (i + 1) parts) fields None kids) ≡ whole
-    fixed_step fields kids w said at same put e = one_more out new said (fixed_text w) whole _ _ same put (ap (λ ps. part_texts ps fields None kids) (at_place (Fixed w) at)) e
+    pub fixed_step : (fields : List Text) (bind : Option Text) (kids : List Text) (w : FixedWord) (said : Text) → get_or parts i d ≡ Fixed w → said ≡ fixed_text w → new ≡ out ++ (codes " " ++ said)
+        → out ++ after_each (part_texts (drop i parts) fields bind kids) ≡ whole → new ++ after_each (part_texts (drop (i + 1) parts) fields bind kids) ≡ whole
+    fixed_step fields bind kids w said at same put e = one_more out new said (fixed_text w) whole _ _ same put (ap (λ ps. part_texts ps fields bind kids) (at_place (Fixed w) at)) e
 
-    pub group_step : (fields kids : List Text) → get_or parts i d ≡ ForGroup → new ≡ out
-        → out ++ after_each (part_texts (drop i parts) fields None kids) ≡ whole → new ++ after_each (part_texts (drop (i + 1) parts) fields None kids) ≡ whole
-    group_step fields kids at same e = (λ j. same j ++ after_each (part_texts (sym (at_place ForGroup at) j) fields None kids)) ∙ e
+    pub no_group_step : (fields : List Text) (bind : Option Text) (kids : List Text) → get_or parts i d ≡ ForGroup → bind ≡ None → new ≡ out
+        → out ++ after_each (part_texts (drop i parts) fields bind kids) ≡ whole → new ++ after_each (part_texts (drop (i + 1) parts) fields bind kids) ≡ whole
+    no_group_step fields bind kids at none same e =
+        (λ j. same j ++ after_each (part_texts (drop (i + 1) parts) fields (none j) kids))
+        ∙ (λ j. out ++ after_each (part_texts (sym (at_place ForGroup at) j) fields (sym none j) kids)) ∙ e
 
-    pub field_step : {X Y : Type 0} (f : Y → Text) (g : X → Y) (xs : List X) (j : ℕ) (x : X) (kids : List Text) (form : FieldForm) (said : Text)
-        → get_or parts i d ≡ AField form → Some x ≡ slice_get xs j → said ≡ f (g x) → new ≡ out ++ (codes " " ++ said)
-        → out ++ after_each (part_texts (drop i parts) (drop j (map f (map g xs))) None kids) ≡ whole → new ++ after_each (part_texts (drop (i + 1) parts) (drop (j + 1) (map f (map g xs))) None kids) ≡ whole
-    field_step f g xs j x kids form said at got same put e =
-        one_more out new said (f (g x)) whole _ _ same put (λ k. part_texts (at_place (AField form) at k) (drop_at_maps f g xs j x (sym got) k) None kids) e
+    pub group_step : (fields : List Text) (bind : Option Text) (kids : List Text) (said : Text) → get_or parts i d ≡ ForGroup → bind ≡ Some said → new ≡ out ++ (codes " " ++ said)
+        → out ++ after_each (part_texts (drop i parts) fields bind kids) ≡ whole → new ++ after_each (part_texts (drop (i + 1) parts) fields bind kids) ≡ whole
+    group_step fields bind kids said at some put e =
+        one_more out new said said whole _ _ refl put
+        ((λ j. part_texts (at_place ForGroup at j) fields (some j) kids) ∙ (λ j. said ∷ part_texts (drop (i + 1) parts) fields (sym some j) kids)) e
 
-    pub kid_step : {X : Type 0} (f : X → Text) (xs : List X) (j : ℕ) (x : X) (fields : List Text) (form : KidForm) (mid : Text)
+    pub field_step : {X Y : Type 0} (f : Y → Text) (g : X → Y) (xs : List X) (j : ℕ) (x : X) (bind : Option Text) (kids : List Text) (form : FieldForm)
+        → get_or parts i d ≡ AField form → Some x ≡ slice_get xs j → new ≡ out ++ (codes " " ++ f (g x))
+        → out ++ after_each (part_texts (drop i parts) (drop j (map f (map g xs))) bind kids) ≡ whole → new ++ after_each (part_texts (drop (i + 1) parts) (drop (j + 1) (map f (map g xs))) bind kids) ≡ whole
+    field_step f g xs j x bind kids form at got put e =
+        one_more out new (f (g x)) (f (g x)) whole _ _ refl put (λ k. part_texts (at_place (AField form) at k) (drop_at_maps f g xs j x (sym got) k) bind kids) e
+
+    pub kid_step : {X : Type 0} (f : X → Text) (xs : List X) (j : ℕ) (x : X) (fields : List Text) (bind : Option Text) (form : KidForm) (mid : Text)
         → get_or parts i d ≡ AKid form → Some x ≡ slice_get xs j → mid ≡ out ++ codes " " → new ≡ mid ++ f x
-        → out ++ after_each (part_texts (drop i parts) fields None (drop j (map f xs))) ≡ whole → new ++ after_each (part_texts (drop (i + 1) parts) fields None (drop (j + 1) (map f xs))) ≡ whole
-    kid_step f xs j x fields form mid at got space put e =
-        one_more out new (f x) (f x) whole _ _ refl (put_both out mid (f x) new space put) (λ k. part_texts (at_place (AKid form) at k) fields None (drop_at_map f xs j x (sym got) k)) e
+        → out ++ after_each (part_texts (drop i parts) fields bind (drop j (map f xs))) ≡ whole → new ++ after_each (part_texts (drop (i + 1) parts) fields bind (drop (j + 1) (map f xs))) ≡ whole
+    kid_step f xs j x fields bind form mid at got space put e =
+        one_more out new (f x) (f x) whole _ _ refl (put_both out mid (f x) new space put) (λ k. part_texts (at_place (AKid form) at k) fields bind (drop_at_map f xs j x (sym got) k)) e
+
+-- ---- the variables of a binder
+
+-- a list of variables has these
+pub kinds_at-variables : (h : Heap Part) → IsSound h → (p : Part) (vs : List BoundVarKind) → IsLive h p → HasNode h p (variables_layer vs) → kinds_at h p ≡ map variable_seen vs
+kinds_at-variables h sound p vs live has =
+    let x = held_node h sound (variables_layer vs) tt refl p live has.tree in
+    kinds_at_node h p x.0 x.1 ∙ ap (λ (l : Layer Part). kinds_among l.label.fields) x.2 ∙ kinds_of_fields vs
+
+module _ (name : SolverDefId → Text) (h : Heap Part) (n : Node) where
+  abbrev bind_of : Option BoundVarKinds → Option Text
+  bind_of b = bind_texts name (option_map (kinds_at h) (option_map part.BoundVarKinds b))
+
+  pub bind_none : ((v : BoundVarKinds) → n.binder ≡ Some v → ⊥) → bind_texts name (shape_over h (node_layer n)).bind ≡ None
+  bind_none none = by n.binder none
+    where
+      by : (b : Option BoundVarKinds) → ((v : BoundVarKinds) → b ≡ Some v → ⊥) → bind_of b ≡ None
+      by None none = refl
+      by (Some v) none = absurd (none v refl)
+
+  bind_live : (v : BoundVarKinds) → n.binder ≡ Some v → Each (IsLive h) (names_in (node_layer n)) → IsLive h (part.BoundVarKinds v)
+  bind_live v e live = (subst (λ b. Each (IsLive h) (with_binder (option_map part.BoundVarKinds b) (kids_of n.kids))) e live).0
+
+  pub bind_some : IsSound h → (v : BoundVarKinds) (vs : List BoundVarKind) → n.binder ≡ Some v → Each (IsLive h) (names_in (node_layer n)) → HasNode h (part.BoundVarKinds v) (variables_layer vs)
+      → bind_texts name (shape_over h (node_layer n)).bind ≡ Some (bind_text name (map variable_seen vs))
+  bind_some sound v vs e live has = ap bind_of e ∙ ap (λ ks. Some (bind_text name ks)) (kinds_at-variables h sound (part.BoundVarKinds v) vs (bind_live v e live) has)
+
+-- the group is begun, and its variables remain
+pub group_begun : (name : SolverDefId → Text) (out new : Text) (vs : List BoundVarKind) → new ≡ out ++ codes " (for"
+    → (new ++ after_each (map (kind_text name) (map variable_seen vs))) ++ codes ")" ≡ out ++ (codes " " ++ bind_text name (map variable_seen vs))
+group_begun name out new vs e =
+    let ts : List Text = map (kind_text name) (map variable_seen vs) in
+    ap (λ x. (x ++ after_each ts) ++ codes ")") (e ∙ sym (append_assoc out (codes " ") (codes "(for")))
+    ∙ in_brackets-after_each (out ++ codes " ") (codes "for") ts
+    ∙ append_assoc out (codes " ") (in_brackets (codes "for" ∷ ts))
 
 -- ---- lists
 
-each_item : {P X : Type 0} (name : X → P) (F : P → Type 0) (xs : List X) (i : ℕ) (d : X) → i < length xs → Each F (map name xs) → F (name (get_or xs i d))
+pub each_item : {P X : Type 0} (name : X → P) (F : P → Type 0) (xs : List X) (i : ℕ) (d : X) → i < length xs → Each F (map name xs) → F (name (get_or xs i d))
 each_item name F [] i d within h = absurd (omega arith)
 each_item name F (x ∷ xs) zero d within h = h.0
 each_item name F (x ∷ xs) (suc i) d within h = each_item name F xs i d (omega arith) h.1
@@ -251,14 +284,6 @@ module _ (name : SolverDefId → Text) (h : Heap Part) where
   empty_list [] few = refl
   empty_list (t ∷ ts) few = absurd (omega arith)
 
-  -- one type more, of what remained
-  pub list_step : (out mid new whole : Text) (rest : List Ty) (i : ℕ) (d : Ty) → i < length rest → mid ≡ out ++ codes " " → new ≡ mid ++ spell name (tree_of h (part.Ty (get_or rest i d)))
-      → (out ++ after_each (drop i (kid_texts name h (tys_kids rest)))) ++ codes ")" ≡ whole → (new ++ after_each (drop (i + 1) (kid_texts name h (tys_kids rest)))) ++ codes ")" ≡ whole
-  list_step out mid new whole rest i d within a b e =
-      let text : Text = spell name (tree_of h (part.Ty (get_or rest i d))) in
-      let next = drop_at_maps (λ p. spell name (tree_of h p)) part.Ty rest i (get_or rest i d) (slice_get-get_or rest i d within) in
-      ap (λ x. x ++ codes ")") (one_more out new text text _ _ _ refl (put_both out mid text new a b) next refl) ∙ e
-
   pub list_begun : (out mid new : Text) (tys : List Ty) (d : Ty) → 1 ≤ length tys → mid ≡ out ++ codes "(" → new ≡ mid ++ spell name (tree_of h (part.Ty (get_or tys 0 d)))
       → (new ++ after_each (kid_texts name h (tys_kids (take (length tys - 1) (drop 1 tys))))) ++ codes ")" ≡ out ++ list_text name h tys
   unfolding list_text
@@ -280,8 +305,13 @@ module _ (name : SolverDefId → Text) (t : Tables) (sound : IsSound (heap_of t)
   pub bare_list : (p : Part) → IsLive (heap_of t) p → ((h : Ty) → p ≡ part.Ty h → ⊥) → ((h : Const) → p ≡ part.Const h → ⊥) → ((h : Region) → p ≡ part.Region h → ⊥) → ((h : Tys) → p ≡ part.Tys h → ⊥)
       → codes "()" ≡ spell name (tree_of (heap_of t) p)
   bare_list p live no_ty no_const no_region no_tys =
-      let x = node_of (heap_of t) p live in
-      let tree = tree_of-node (heap_of t) sound p x.0 x.1 ∙ ap (λ ks. plant x.0.shape (forest (tree_of (heap_of t)) ks)) (no_kids t p x.0 x.1 no_ty no_tys) in
-      let sort = sym (ap sort_of tree) ∙ live_sort t sound p live ∙ listed p no_ty no_const no_region in
-      let F : Bool → Text = λ b. elim b [ true ↦ in_brackets [] | false ↦ word_text (row x.0.shape.label.word).text (row x.0.shape.label.word).parts (map (field_text name) x.0.shape.label.fields) (bind_texts name x.0.shape.bind) [] ] in
-      sym (ap F (ap (λ s. same_sort s OfList) sort)) ∙ sym (ap (spell name) tree)
+      let h : Heap Part = heap_of t in
+      let x = node_of h p live in
+      let l : Layer Part = x.0.layer in
+      let tree = tree_of-node h sound p x.0 x.1 in
+      let sort = sym (sort-plant (shape_over h l) (forest (tree_of h) l.kids)) ∙ sym (ap sort_of tree) ∙ live_sort t sound p live ∙ listed p no_ty no_const no_region in
+      let F : Bool → Text = λ b. elim b [ true ↦ in_brackets [] | false ↦ word_text (row l.label.word).text (row l.label.word).parts (map (field_text name) l.label.fields) (bind_texts name (shape_over h l).bind) [] ] in
+      sym (ap F (ap (λ s. same_sort s OfList) sort))
+      ∙ ap (λ ks. label_text name l.label (shape_over h l).bind (spell_each name (forest (tree_of h) ks))) (sym (no_kids t p x.0 x.1 no_ty no_tys))
+      ∙ sym (spell-plant name (shape_over h l) (forest (tree_of h) l.kids))
+      ∙ ap (spell name) (sym tree)

@@ -1,5 +1,6 @@
 -- The parts of the start: their names, and the calls that make them one after another.
-use Rattle.std.proofs.Common.{◌≡◌, ℕ, zero, suc, ◌<◌, ◌≤◌, nat_le, leb-true, Bool, true, List, [], ◌∷◌, ◌++◌, length, map, get_or, Result, Ok, Err, None, inr, ⊎_elim, refl, sym, ap, subst, ◌∙◌, arith}
+use Rattle.std.proofs.Common.{◌≡◌, ℕ, zero, suc, ◌<◌, ◌≤◌, nat_le, leb-true, Bool, true, List, [], ◌∷◌, ◌++◌, length, map, get_or, Result, Ok, Err, None, inr, ⊎_elim, refl, sym, ap, subst, ◌∙◌, true≢false, arith}
+use Rattle.std.proofs.lemmas.Bool.Decides.{nat_tests}
 use Rattle.std.proofs.lemmas.List.{map-append}
 use Rattle.std.specs.List.{list_all}
 use Rattle.std.specs.Result.{IsErrAnd}
@@ -9,13 +10,15 @@ use Rattle.ir_core.specs.declared.defaults.DefaultAny.{DefaultAny}
 use Rattle.ir_core.specs.declared.handles.Part.{Part}
 use Rattle.ir_core.specs.declared.handles.Part.TheVariants as part
 use Rattle.ir_core.specs.declared.handles.Ty.{Ty}
+use Rattle.ir_core.specs.declared.ids.SolverDefId.{SolverDefId}
 use Rattle.ir_laws.specs.Counts.{height}
-use Rattle.ir_laws.specs.Heap.{Shape, plant, forest, Heap, Each, IsLive, Grows, tree_of}
+use Rattle.ir_laws.specs.Heap.{Layer, plant, forest, Heap, Each, Grows, tree_of}
 use Rattle.ir_laws.specs.Held.{HoldsJust}
+use Rattle.ir_laws.specs.Limits.{Limits, capped, variables_fit, is_within}
 use Rattle.ir_laws.specs.Parts.{is_part}
 use Rattle.ir_laws.specs.Same.{same_term}
 use Rattle.ir_laws.specs.Start.{start_parts}
-use Rattle.ir_laws.specs.Tree.{End, And, Term, terms_of}
+use Rattle.ir_laws.specs.Tree.{Label, End, And, Term, Terms, terms_of}
 use Rattle.ir_laws.proofs.HeapLemmas.{Each-map}
 use Rattle.ir_laws.proofs.HeldLemmas.{none_held}
 use Rattle.ir_laws.proofs.PartSets.{no_part, part_of_cons, by_test}
@@ -69,17 +72,20 @@ parts_of ns = map (λ (n : Named). n.0) ns
 abbrev pub trees_of : List Named → List Term
 trees_of ns = map (λ (n : Named). n.1) ns
 
-module _ (h : Heap Part) where
-  named_live : (ns : List Named) → Each (Names h) ns → Each (IsLive h) (parts_of ns)
-  named_live [] w = tt
-  named_live (n ∷ ns) w = (w.0.0, named_live ns w.1)
+-- the layer and the tree of a label that binds nothing
+abbrev pub layer_over : Label SolverDefId → List Part → Layer Part
+layer_over l ps = record { label = l; binder = None; kids = ps }
 
+abbrev pub over : Label SolverDefId → Terms → Term
+over l ts = plant (record { label = l; bind = None }) ts
+
+module _ (h : Heap Part) where
   named_forest : (ns : List Named) → Each (Names h) ns → terms_of (trees_of ns) ≡ forest (tree_of h) (parts_of ns)
   named_forest [] w = refl
   named_forest (n ∷ ns) w = (λ i. And (sym w.0.1 i) (named_forest ns w.1 i))
 
-  named_planted : (shape : Shape) (ns : List Named) → Each (Names h) ns → plant shape (terms_of (trees_of ns)) ≡ plant shape (forest (tree_of h) (parts_of ns))
-  named_planted shape ns w = ap (plant shape) (named_forest ns w)
+  named_planted : (l : Label SolverDefId) (ns : List Named) → Each (Names h) ns → over l (terms_of (trees_of ns)) ≡ over l (forest (tree_of h) (parts_of ns))
+  named_planted l ns w = ap (over l) (named_forest ns w)
 
 pub Each-append : {P : Type 0} (F : P → Type 0) (xs ys : List P) → Each F xs → Each F ys → Each F (xs ++ ys)
 Each-append F [] ys a b = b
@@ -93,36 +99,36 @@ pub record Made (old : State) (now : Store) (ns : List Named) : Type 0 where
 pub begun : (s : Store) → Made (stored s) s []
 begun s = record { makes = makes_none (stored s); names = tt }
 
-module _ {old : State} {mid : Store} {ns : List Named} (so_far : Made old mid ns) {U : Type 0} {name : U → Part} {shape : Shape} (ks : List Named) (kids : Each (Names (stored mid).heap) ks) where
-  then_made : {new : State} {r : Result U TermError} → NewAnswers name (stored mid) new shape (parts_of ks) r → Makes old new (trees_of ns ++ plant shape (terms_of (trees_of ks)) ∷ []) r
+module _ {old : State} {mid : Store} {ns : List Named} (so_far : Made old mid ns) {U : Type 0} {name : U → Part} {label : Label SolverDefId} (ks : List Named) (kids : Each (Names (stored mid).heap) ks) where
+  then_made : {new : State} {r : Result U TermError} → NewAnswers name (stored mid) new (layer_over label (parts_of ks)) r → Makes old new (trees_of ns ++ over label (terms_of (trees_of ks)) ∷ []) r
   then_made {new = new} {r = r} a = makes_then old (stored mid) new (trees_of ns) _ tt r so_far.makes
-      (makes_new (stored mid) new shape (parts_of ks) r _ mid.sound mid.counted (named_live (stored mid).heap ks kids) (named_planted (stored mid).heap shape ks kids) a)
+      (makes_new (stored mid) new (layer_over label (parts_of ks)) r _ mid.counted (named_planted (stored mid).heap label ks kids) a)
 
   -- one more call, of a node over named kids
-  pub over : (new : Store) {x : U} → NewAnswers name (stored mid) (stored new) shape (parts_of ks) (Ok x) → Made old new (ns ++ (name x, plant shape (terms_of (trees_of ks))) ∷ [])
-  over new {x = x} a = record {
+  pub one_more : (new : Store) {x : U} → NewAnswers name (stored mid) (stored new) (layer_over label (parts_of ks)) (Ok x) → Made old new (ns ++ (name x, over label (terms_of (trees_of ks))) ∷ [])
+  one_more new {x = x} a = record {
     makes = subst (λ ts. Makes {T = Unit {0}} old (stored new) ts (Ok tt)) (sym (map-append (λ (n : Named). n.1) ns _)) (makes_ok old (stored new) _ x tt (then_made a));
-    names = Each-append (Names (stored new).heap) ns _ (names_each_later a.ok.grows ns so_far.names) ((a.ok.live, a.ok.tree ∙ sym (named_planted (stored mid).heap shape ks kids)), tt);
+    names = Each-append (Names (stored new).heap) ns _ (names_each_later a.ok.grows ns so_far.names) ((a.ok.live, a.ok.tree ∙ sym (named_planted (stored mid).heap label ks kids)), tt);
   }
 
   -- one more call, which is refused: the exit of a `?`
-  pub refused_within : {new : State} {e : TermError} {V : Type 0} {us : List Term} (r : Result V TermError) → NewAnswers name (stored mid) new shape (parts_of ks) (Err e) → IsErrAnd r (λ x. x ≡ e)
-      → ((t : Term) → is_part (trees_of ns ++ plant shape (terms_of (trees_of ks)) ∷ []) t ≡ true → is_part us t ≡ true) → Makes old new us r
+  pub refused_within : {new : State} {e : TermError} {V : Type 0} {us : List Term} (r : Result V TermError) → NewAnswers name (stored mid) new (layer_over label (parts_of ks)) (Err e) → IsErrAnd r (λ x. x ≡ e)
+      → ((t : Term) → is_part (trees_of ns ++ over label (terms_of (trees_of ks)) ∷ []) t ≡ true → is_part us t ≡ true) → Makes old new us r
   refused_within (Ok y) a is more = absurd is
-  refused_within {new = new} {us = us} (Err y) a is more = rw is (makes_err old new (trees_of ns ++ plant shape (terms_of (trees_of ks)) ∷ []) us _ (then_made a) more)
+  refused_within {new = new} {us = us} (Err y) a is more = rw is (makes_err old new (trees_of ns ++ over label (terms_of (trees_of ks)) ∷ []) us _ (then_made a) more)
 
-  pub refused_over : {new : State} {e : TermError} {V : Type 0} {us : List Term} (r : Result V TermError) → NewAnswers name (stored mid) new shape (parts_of ks) (Err e) → IsErrAnd r (λ x. x ≡ e)
-      → list_all (is_part us) (trees_of ns ++ plant shape (terms_of (trees_of ks)) ∷ []) ≡ true → Makes old new us r
+  pub refused_over : {new : State} {e : TermError} {V : Type 0} {us : List Term} (r : Result V TermError) → NewAnswers name (stored mid) new (layer_over label (parts_of ks)) (Err e) → IsErrAnd r (λ x. x ≡ e)
+      → list_all (is_part us) (trees_of ns ++ over label (terms_of (trees_of ks)) ∷ []) ≡ true → Makes old new us r
   refused_over {us = us} r a is test = refused_within r a is (by_test _ us test)
 
 -- the same of a leaf
-pub also : {old : State} {mid : Store} {ns : List Named} (new : Store) → Made old mid ns → {U : Type 0} {name : U → Part} {shape : Shape} {x : U}
-    → NewAnswers name (stored mid) (stored new) shape [] (Ok x) → Made old new (ns ++ (name x, plant shape End) ∷ [])
-also new so_far a = over so_far [] tt new a
+pub also : {old : State} {mid : Store} {ns : List Named} (new : Store) → Made old mid ns → {U : Type 0} {name : U → Part} {label : Label SolverDefId} {x : U}
+    → NewAnswers name (stored mid) (stored new) (layer_over label []) (Ok x) → Made old new (ns ++ (name x, over label End) ∷ [])
+also new so_far a = one_more so_far [] tt new a
 
 pub refused : {old : State} {mid : Store} {ns : List Named} {new : State} {e : TermError} {V : Type 0} {us : List Term} (r : Result V TermError) → Made old mid ns
-    → {U : Type 0} {name : U → Part} {shape : Shape} → NewAnswers name (stored mid) new shape [] (Err e) → IsErrAnd r (λ x. x ≡ e)
-    → list_all (is_part us) (trees_of ns ++ plant shape End ∷ []) ≡ true → Makes old new us r
+    → {U : Type 0} {name : U → Part} {label : Label SolverDefId} → NewAnswers name (stored mid) new (layer_over label []) (Err e) → IsErrAnd r (λ x. x ≡ e)
+    → list_all (is_part us) (trees_of ns ++ over label End ∷ []) ≡ true → Makes old new us r
 refused r so_far a is test = refused_over so_far [] tt r a is test
 
 -- the last one is made
@@ -162,8 +168,13 @@ member_passes f (u ∷ ts) t all m =
     let both = and_parts (f u) (list_all f ts) all in
     ⊎_elim (λ here. ap f (sym here) ∙ both.0) (member_passes f ts t both.1) (part_of_cons u ts t m)
 
-start_low : (t : Term) → is_part start_parts t ≡ true → height t ≤ 3
-start_low t m = leb-true (height t) 3 (member_passes (λ u. nat_le (height u) 3) start_parts t refl m)
+-- none of them has a variable
+start_low : (limits : Limits) (t : Term) → is_part start_parts t ≡ true → is_within (capped limits) t ≡ true
+start_low limits t m =
+    let high = leb-true (height t) 3 (member_passes (λ u. nat_le (height u) 3) start_parts t refl m) in
+    let variables = member_passes (variables_fit (capped limits)) start_parts t refl m in
+    let low : nat_le (height t) (capped limits).height ≡ true = let le : height t ≤ (capped limits).height = omega arith in grind (arith, nat_tests) in
+    and_from (nat_le (height t) (capped limits).height) (variables_fit (capped limits) t) low variables
 
 module _ {T : Type 0} (old new : State) (none : (p : Part) → old.heap p ≡ None) where
   pub start_held : (x : T) → Makes old new start_parts (Ok x) → HoldsJust new.heap start_parts
@@ -174,7 +185,7 @@ module _ {T : Type 0} (old new : State) (none : (p : Part) → old.heap p ≡ No
 
 -- no part of the start is too deep
 pub start_refusal : {T : Type 0} (old new : State) (e : TermError) → Makes {T = T} old new start_parts (Err e) → IsStartRefusal e
-start_refusal old new error.TooDeep a = let w = a.too_deep refl in let low = start_low w.0 w.1 in absurd (omega arith)
+start_refusal old new error.TooDeep a = let w = a.too_deep refl in absurd (true≢false (sym (start_low old.limits w.0 w.1) ∙ w.2))
 start_refusal old new error.TooMany a = tt
 start_refusal old new error.Memory a = tt
 start_refusal old new error.Escapes a = absurd a.causes

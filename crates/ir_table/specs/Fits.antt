@@ -1,5 +1,6 @@
 -- From a label and parts to a kind: which parts fit which label.
-use Rattle.std.specs.Prelude.{◌≡◌, Bool, true, false, ◌&&◌, ◌||◌, List, [], ◌∷◌}
+use Rattle.std.specs.Prelude.{◌≡◌, Bool, true, false, ◌&&◌, ◌||◌, List, [], ◌∷◌, Option, is_some}
+use Rattle.ir_core.specs.declared.handles.BoundVarKinds.{BoundVarKinds}
 use Rattle.ir_core.specs.declared.handles.Part.{Part}
 use Rattle.ir_core.specs.declared.handles.Part.TheVariants as part
 use Rattle.ir_laws.specs.declared.words.Word.{Word}
@@ -14,10 +15,11 @@ use Rattle.ir_laws.specs.Label.{row}
 use Rattle.ir_laws.specs.Names.{field_forms}
 use Rattle.ir_laws.specs.Sorts.{is_word_among}
 use Rattle.ir_laws.specs.Formed.{kid_forms, fields_fit}
-use Rattle.ir_laws.specs.Heap.{Shape}
+use Rattle.ir_laws.specs.Parts.{has_for_group}
+use Rattle.ir_laws.specs.Heap.{Layer}
 use Rattle.ir_table.specs.declared.join.AnyKind.{AnyKind}
 use Rattle.ir_table.specs.declared.join.AnyKind.TheVariants as any
-use Rattle.ir_table.specs.Kinds.{Fields, ty_shape, ty_kids, const_shape, region_shape}
+use Rattle.ir_table.specs.Kinds.{Fields, ty_layer, const_layer, region_layer}
 
 abbrev pub part_sort : Part → Sort
 part_sort (part.Ty t) = OfType
@@ -49,19 +51,15 @@ kids_fit [] [] = true
 kids_fit (form ∷ forms) (p ∷ ps) = kid_fits form p && kids_fit forms ps
 kids_fit forms ps = false
 
--- the fields and the parts fit the row of a word that is built
-pub record FitsRow (w : Word) (fs : Fields) (ps : List Part) : Type 0 where
+-- the layer fits the row of a word that is built
+pub record FitsRow (w : Word) (fs : Fields) (b : Option BoundVarKinds) (ps : List Part) : Type 0 where
   pub built : is_word_among label_words w ≡ true
   pub fields : fields_fit (field_forms (row w).parts) fs ≡ true
+  pub binder : has_for_group (row w).parts ≡ is_some b
   pub kids : kids_fit (kid_forms (row w).parts) ps ≡ true
 
 -- what a kind is of its sort's kinds
-abbrev pub kind_shape : AnyKind → Shape
-kind_shape (any.Ty k) = ty_shape k
-kind_shape (any.Const k) = const_shape k
-kind_shape (any.Region k) = region_shape k
-
-abbrev pub kind_kids : AnyKind → List Part
-kind_kids (any.Ty k) = ty_kids k
-kind_kids (any.Const k) = []
-kind_kids (any.Region k) = []
+abbrev pub kind_layer : AnyKind → Layer Part
+kind_layer (any.Ty k) = ty_layer k
+kind_layer (any.Const k) = const_layer k
+kind_layer (any.Region k) = region_layer k

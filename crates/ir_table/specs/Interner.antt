@@ -7,7 +7,7 @@ use Rattle.ir_core.specs.declared.handles.Tys.{Tys}
 use Rattle.ir_core.specs.declared.limit.Limits.{Limits as GivenLimits}
 use Rattle.ir_laws.specs.Heap.{HasNode, Heap}
 use Rattle.ir_table.specs.Count.{count_of}
-use Rattle.ir_table.specs.Kinds.{heap_of, tys_shape, tys_kids}
+use Rattle.ir_table.specs.Kinds.{heap_of, tys_layer}
 use Rattle.ir_table.specs.Limits.{limits_seen}
 use Rattle.ir_table.specs.declared.Interner.{Interner}
 use Rattle.ir_table.specs.declared.store.Store.{Store}
@@ -39,4 +39,4 @@ Asks old new = asked new ≡ rises (asked old)
 
 -- the handle's list has these types
 abbrev pub HasTypes : Interner → Tys → List Ty → Type 0
-HasTypes cx tys all = HasNode (heap cx) (part.Tys tys) (tys_shape all) (tys_kids all)
+HasTypes cx tys all = HasNode (heap cx) (part.Tys tys) (tys_layer all)

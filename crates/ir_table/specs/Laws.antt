@@ -1,5 +1,5 @@
 -- What callers may rely on at any moment of an interner.
-use Rattle.std.specs.Prelude.{◌≡◌, ◌↔◌, List, length, Result}
+use Rattle.std.specs.Prelude.{◌≡◌, ◌↔◌, ◌≤◌, List, length, Result, IsOk}
 use Rattle.ir_core.specs.declared.errors.TermError.{TermError}
 use Rattle.ir_core.specs.declared.handles.BoundVarKinds.{BoundVarKinds}
 use Rattle.ir_core.specs.declared.handles.Const.{Const}
@@ -9,12 +9,12 @@ use Rattle.ir_core.specs.declared.handles.Region.{Region}
 use Rattle.ir_core.specs.declared.handles.Ty.{Ty}
 use Rattle.ir_core.specs.declared.handles.Tys.{Tys}
 use Rattle.ir_core.specs.declared.handles.VariancesOf.{VariancesOf}
-use Rattle.ir_laws.specs.Heap.{Grows, IsLive, Shape, tree_of}
+use Rattle.ir_laws.specs.Heap.{Grows, Holds, IsLive, Layer, tree_of}
 use Rattle.ir_laws.specs.Held.{HoldsJust}
 use Rattle.ir_laws.specs.Tree.{Term}
 use Rattle.ir_table.specs.declared.Interner.{Interner}
 use Rattle.ir_table.specs.Interner.{heap, state}
-use Rattle.ir_table.specs.State.{NewAnswers}
+use Rattle.ir_table.specs.State.{NewAnswers, width}
 
 -- two live handles of one sort, which names parts, are equal exactly where their trees are
 abbrev pub AreTold : {T : Type 0} → (T → Part) → Type 0
@@ -42,7 +42,7 @@ PartsAreCounted = (cx : Interner) (ts : List Term) → HoldsJust (heap cx) ts �
 
 -- whatever a call answers that makes a handle of one sort, which names parts, older parts stay as they are
 abbrev pub OnlyAdds : {T : Type 0} → (T → Part) → Type 0
-OnlyAdds {T} name = (old new : Interner) (shape : Shape) (kids : List Part) (r : Result T TermError) → NewAnswers name (state old) (state new) shape kids r → Grows (heap old) (heap new)
+OnlyAdds {T} name = (old new : Interner) (l : Layer Part) (r : Result T TermError) → NewAnswers name (state old) (state new) l r → Grows (heap old) (heap new)
 
 abbrev pub TypesOnlyAdd : Type 0
 TypesOnlyAdd = OnlyAdds {T = Ty} part.Ty
@@ -61,3 +61,25 @@ VariableListsOnlyAdd = OnlyAdds {T = BoundVarKinds} part.BoundVarKinds
 
 abbrev pub VarianceListsOnlyAdd : Type 0
 VarianceListsOnlyAdd = OnlyAdds {T = VariancesOf} part.VariancesOf
+
+-- a node that is held already, with at most eight items, is given, and no memory is wanted
+abbrev pub AreGiven : {T : Type 0} → (T → Part) → Type 0
+AreGiven {T} name = (old new : Interner) (l : Layer Part) (r : Result T TermError) → Holds (heap old) l → width l ≤ 8 → NewAnswers name (state old) (state new) l r → IsOk r
+
+abbrev pub TypesAreGiven : Type 0
+TypesAreGiven = AreGiven {T = Ty} part.Ty
+
+abbrev pub ConstantsAreGiven : Type 0
+ConstantsAreGiven = AreGiven {T = Const} part.Const
+
+abbrev pub RegionsAreGiven : Type 0
+RegionsAreGiven = AreGiven {T = Region} part.Region
+
+abbrev pub TypeListsAreGiven : Type 0
+TypeListsAreGiven = AreGiven {T = Tys} part.Tys
+
+abbrev pub VariableListsAreGiven : Type 0
+VariableListsAreGiven = AreGiven {T = BoundVarKinds} part.BoundVarKinds
+
+abbrev pub VarianceListsAreGiven : Type 0
+VarianceListsAreGiven = AreGiven {T = VariancesOf} part.VariancesOf

@@ -1,4 +1,5 @@
 pub mod Exact
+pub mod ExactKinds
 pub mod Table
 pub mod Kinds
 pub mod Count
@@ -6,7 +7,10 @@ pub mod Fits
 pub mod Limits
 pub mod Spelled
 pub mod State
+pub mod Above
+pub mod Cached
 pub mod Start
 pub mod Interner
 pub mod Iterated
 pub mod Laws
+pub mod Listed

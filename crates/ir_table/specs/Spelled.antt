@@ -1,5 +1,5 @@
 -- What is spelled of a part, and behind what.
-use Rattle.std.specs.Prelude.{◌≡◌, false, List, [], ◌∷◌, ◌++◌, map, Option, None, unwrap_or, length, take, codes}
+use Rattle.std.specs.Prelude.{◌≡◌, false, List, [], ◌∷◌, ◌++◌, map, Option, unwrap_or, length, take, codes}
 use Rattle.ir_core.specs.declared.ids.SolverDefId.{SolverDefId}
 use Rattle.ir_core.specs.declared.handles.Ty.{Ty}
 use Rattle.ir_core.specs.declared.handles.Part.{Part}
@@ -8,13 +8,13 @@ use Rattle.ir_core.specs.declared.terms.AnyTerm.{AnyTerm}
 use Rattle.ir_core.specs.declared.terms.AnyTerm.TheVariants as any
 use Rattle.ir_laws.specs.declared.labels.Part.{Part as LabelPart}
 use Rattle.ir_laws.specs.declared.labels.Sort.TheVariants.{OfList}
-use Rattle.ir_laws.specs.Tree.{Text}
+use Rattle.ir_laws.specs.Tree.{Text, Label}
 use Rattle.ir_laws.specs.Same.{same_sort}
 use Rattle.ir_laws.specs.Counts.{sort_of_label}
-use Rattle.ir_laws.specs.Spelling.{field_text, in_brackets, label_text, part_texts, spell}
-use Rattle.ir_laws.specs.Heap.{Shape, Heap, tree_of}
+use Rattle.ir_laws.specs.Spelling.{bind_texts, field_text, in_brackets, label_text, part_texts, spell}
+use Rattle.ir_laws.specs.Heap.{Layer, Heap, shape_over, tree_of}
 use Rattle.ir_table.specs.declared.parts.Node.{Node}
-use Rattle.ir_table.specs.Kinds.{node_kids, node_shape, tys_kids}
+use Rattle.ir_table.specs.Kinds.{node_layer, tys_kids}
 
 -- the part of a term
 abbrev pub part_of : AnyTerm → Part
@@ -40,18 +40,18 @@ module _ (name : SolverDefId → Text) (h : Heap Part) where
   abbrev pub kid_texts : List Part → List Text
   kid_texts ps = map (λ p. spell name (tree_of h p)) ps
 
-  -- a node of the shape with these kids
-  unfoldable pub node_text : Shape → List Part → Text
-  node_text s ps = label_text name s.label s.bind (kid_texts ps)
+  -- a node of the layer
+  unfoldable pub node_text : Layer Part → Text
+  node_text l = label_text name l.label (shape_over h l).bind (kid_texts l.kids)
 
   -- what stands behind the word of a node
   unfoldable pub places_text : List LabelPart → Node → Text
-  places_text parts n = after_each (part_texts parts (map (field_text name) (node_shape n).label.fields) None (kid_texts (node_kids n)))
+  places_text parts n = after_each (part_texts parts (map (field_text name) (node_layer n).label.fields) (bind_texts name (shape_over h (node_layer n)).bind) (kid_texts (node_layer n).kids))
 
   -- a list of types
   unfoldable pub list_text : List Ty → Text
   list_text tys = in_brackets (kid_texts (tys_kids tys))
 
--- the shape is no list's
-unfoldable pub IsNoList : Shape → Type 0
-IsNoList s = same_sort (sort_of_label s.label) OfList ≡ false
+-- the label is no list's
+unfoldable pub IsNoList : Label SolverDefId → Type 0
+IsNoList l = same_sort (sort_of_label l) OfList ≡ false

@@ -1,11 +1,11 @@
 //! Constants.
 ghost use Rattle.ir_core.specs.declared.handles.Part.TheVariants as part;
-ghost use Rattle.ir_laws.specs.Heap.{Each, IsLive};
 ghost use Rattle.ir_table.specs.Interner.{rises, stored};
-ghost use Rattle.ir_table.specs.Kinds.{heap_of, const_shape};
+ghost use Rattle.ir_table.specs.Kinds.{const_layer};
 ghost use Rattle.ir_table.specs.State.{NewAnswers};
-ghost use Rattle.std.specs.Prelude.{◌≡◌, []};
+ghost use Rattle.std.specs.Prelude.{◌≡◌};
 
+use crate::above::const_own;
 use crate::split::const_node;
 use crate::store::Store;
 use crate::{Handle, Intern, Interner};
@@ -14,7 +14,7 @@ use ir_core::{Const, ConstKind, Part, R};
 impl Store {
     // The constant of the kind.
     pub(crate) fn constant(&mut self, kind: ConstKind) -> R<Const>
-        ensures answers { NewAnswers part.Const (stored self.old) (stored self.new) (const_shape kind) [] result }
+        ensures answers { NewAnswers part.Const (stored self.old) (stored self.new) (const_layer kind) result }
         ensures asked { self.new.asked ≡ rises self.old.asked }
     {
         self.asked = self.asked.saturating_add(1);
@@ -23,7 +23,7 @@ impl Store {
                 position: index as u32,
             });
         }
-        let cached = self.admit(self.above_node(&const_node(kind)))?;
+        let cached = self.admit(self.above_node(const_own(kind), &const_node(kind)))?;
         let index = self.tables.consts.len();
         self.tables.consts.push(kind, cached)?;
         Ok(Const {
@@ -45,9 +45,7 @@ impl Handle for Const {
 impl Intern for Const {
     type Kind = ConstKind;
 
-    ghost shape = { const_shape };
-
-    ghost kids = { λ _. [] };
+    ghost layer = { const_layer };
 
     fn new(cx: &mut Interner, kind: ConstKind) -> R<Const> {
         cx.store.constant(kind)

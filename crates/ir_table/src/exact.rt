@@ -39,17 +39,19 @@ impl Exact for Tys {
 }
 
 impl Exact for RegionKind {
+    ghost use Rattle.ir_table.specs.ExactKinds.{exact_region};
     ghost use Rattle.std.proofs.Common.{rules};
 
-    ghost exact = { Prim.search rules };
+    ghost exact = { exact_region };
 
     ghost copied = { Prim.search rules };
 }
 
 impl Exact for TyKind {
+    ghost use Rattle.ir_table.specs.ExactKinds.{exact_type};
     ghost use Rattle.std.proofs.Common.{rules};
 
-    ghost exact = { Prim.search rules };
+    ghost exact = { exact_type };
 
     ghost copied = { Prim.search rules };
 }

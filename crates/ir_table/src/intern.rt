@@ -1,5 +1,7 @@
 //! What the sorts of parts have in common.
-ghost use Rattle.ir_laws.specs.Heap.{Shape, Each, IsLive, HasNode};
+ghost use Rattle.ir_laws.specs.Counts.{flags, outer};
+ghost use Rattle.ir_laws.specs.Heap.{Layer, Each, IsLive, HasNode, names_in, tree_of};
+ghost use Rattle.ir_core.specs.Flags.{bits_of};
 ghost use Rattle.ir_table.specs.Interner.{Asks, heap, state};
 ghost use Rattle.ir_table.specs.Iterated.{AsksItems, AsksItemsOrErr, GivesLive, GivesLiveOrErr};
 ghost use Rattle.ir_table.specs.State.{NewAnswers};
@@ -10,7 +12,7 @@ ghost use Rattle.std.specs.Prelude.{◌≡◌, ◌↔◌, [], length, List, IsTr
 ghost use Rattle.std.specs.Slice.Iter.{iter_rest};
 
 use crate::Interner;
-use ir_core::{DebruijnIndex, Part, R, WithCachedTypeInfo};
+use ir_core::{Part, R, WithCachedTypeInfo};
 use std::alloc::Global;
 use std::iter::Copied;
 use std::slice::Iter;
@@ -34,30 +36,31 @@ pub trait Intern: Handle {
     type Kind: Copy;
 
     // what a kind is made of
-    ghost shape: { Self.Kind → Shape };
-
-    ghost kids: { Self.Kind → List Part };
+    ghost layer: { Self.Kind → Layer Part };
 
     /// The handle of the kind. It counts as asked. It is the one that the kind had before, if it is held; then no memory is taken.
     fn new(cx: &mut Interner, kind: Self::Kind) -> R<Self>
-        requires { Each (IsLive (heap cx.old)) (kids kind) }
-        ensures answers { NewAnswers Self.part (state cx.old) (state cx.new) (shape kind) (kids kind) result }
+        requires { Each (IsLive (heap cx.old)) (names_in (layer kind)) }
+        ensures answers { NewAnswers Self.part (state cx.old) (state cx.new) (layer kind) result }
         ensures asked { Asks cx.old cx.new };
 
     /// The kind that was put in.
     fn kind(self, cx: &Interner) -> Self::Kind
         requires { IsLive (heap cx.now) (Self.part self) }
-        ensures { HasNode (heap cx.now) (Self.part self) (shape result) (kids result) };
+        ensures { HasNode (heap cx.now) (Self.part self) (layer result) };
 
-    /// The kind, and beside it what the term holds and how many binders outside of it it speaks of. No label that is built binds a variable or is one, so that number is 0 so far.
+    /// The kind, and beside it what the term holds and how many binders outside of it it speaks of.
     fn inner(self, cx: &Interner) -> WithCachedTypeInfo<Self::Kind>
         requires { IsLive (heap cx.now) (Self.part self) }
-        ensures { HasNode (heap cx.now) (Self.part self) (shape result.internee) (kids result.internee) }
+        ensures kind { HasNode (heap cx.now) (Self.part self) (layer result.internee) }
+        ensures flags { bits_of result.flags ≡ flags (tree_of (heap cx.now) (Self.part self)) }
+        ensures outer { result.outer_exclusive_binder.0 ≡ outer (tree_of (heap cx.now) (Self.part self)) }
     {
+        let kept = cx.store.told(self.as_part());
         WithCachedTypeInfo {
             internee: self.kind(cx),
-            flags: cx.store.cached(self.as_part()).flags,
-            outer_exclusive_binder: DebruijnIndex(0),
+            flags: kept.flags,
+            outer_exclusive_binder: kept.outer_exclusive_binder,
         }
     }
 
@@ -72,18 +75,16 @@ pub trait InternList: Handle {
     type Item: Copy;
 
     // what a list of these items is made of
-    ghost list_shape: { List Self.Item → Shape };
-
-    ghost list_kids: { List Self.Item → List Part };
+    ghost list_layer: { List Self.Item → Layer Part };
 
     /// The list without items, which is there from the start.
     fn empty(cx: &Interner) -> Self
-        ensures { HasNode (heap cx.now) (Self.part result) (list_shape []) (list_kids []) };
+        ensures { HasNode (heap cx.now) (Self.part result) (list_layer []) };
 
     /// The handle of the list. It counts as asked. It is the one that the list had before, if it is held; then no memory is taken for up to eight items.
     fn new_from_slice(cx: &mut Interner, items: &[Self::Item]) -> R<Self>
-        requires { Each (IsLive (heap cx.old)) (list_kids items.now) }
-        ensures answers { NewAnswers Self.part (state cx.old) (state cx.new) (list_shape items.now) (list_kids items.now) result }
+        requires { Each (IsLive (heap cx.old)) (names_in (list_layer items.now)) }
+        ensures answers { NewAnswers Self.part (state cx.old) (state cx.new) (list_layer items.now) result }
         ensures asked { Asks cx.old cx.new };
 
     /// The handle of the list of the iterator's items, which are read into memory first. Where there is none, nothing changes.
@@ -94,8 +95,8 @@ pub trait InternList: Handle {
     ) -> R<Self>
         requires can { I.can_next items }
         requires finite { IsFinite (I.remaining items) }
-        requires live { GivesLive list_kids cx.old I.next_gives items }
-        ensures { AsksItems Self.part list_shape list_kids cx.old cx.new I.next_gives items result }
+        requires live { GivesLive list_layer cx.old I.next_gives items }
+        ensures { AsksItems Self.part list_layer cx.old cx.new I.next_gives items result }
     {
         let items: Vec<Self::Item> = items.collect(alloc)?;
         Self::new_from_slice(cx, items.as_slice())
@@ -109,8 +110,8 @@ pub trait InternList: Handle {
     ) -> R<Self>
         requires can { I.can_next items }
         requires finite { IsFinite (I.remaining items) }
-        requires live { GivesLiveOrErr list_kids cx.old I.next_gives items }
-        ensures { AsksItemsOrErr Self.part list_shape list_kids cx.old cx.new I.next_gives items result }
+        requires live { GivesLiveOrErr list_layer cx.old I.next_gives items }
+        ensures { AsksItemsOrErr Self.part list_layer cx.old cx.new I.next_gives items result }
     {
         let mut all: Vec<Self::Item> = Vec::new(alloc);
         for item in items {
@@ -122,12 +123,12 @@ pub trait InternList: Handle {
     /// The items that were put in.
     fn as_slice<'a>(self, cx: &'a Interner) -> &'a [Self::Item]
         requires { IsLive (heap cx.now) (Self.part self) }
-        ensures { HasNode (heap cx.now) (Self.part self) (list_shape result.now) (list_kids result.now) };
+        ensures { HasNode (heap cx.now) (Self.part self) (list_layer result.now) };
 
     /// The items that were put in, in order.
     fn iter<'a>(self, cx: &'a Interner) -> Copied<Iter<'a, Self::Item>>
         requires { IsLive (heap cx.now) (Self.part self) }
-        ensures { let items = iter_rest (copied_source result) in HasNode (heap cx.now) (Self.part self) (list_shape items) (list_kids items) }
+        ensures { let items = iter_rest (copied_source result) in HasNode (heap cx.now) (Self.part self) (list_layer items) }
     {
         self.as_slice(cx).iter().copied()
     }
@@ -135,12 +136,12 @@ pub trait InternList: Handle {
     /// How many items there are.
     fn len(self, cx: &Interner) -> usize
         requires { IsLive (heap cx.now) (Self.part self) }
-        ensures { (items : List Self.Item) × HasNode (heap cx.now) (Self.part self) (list_shape items) (list_kids items) × (result ≡ length items) };
+        ensures { (items : List Self.Item) × HasNode (heap cx.now) (Self.part self) (list_layer items) × (result ≡ length items) };
 
     /// Whether there are none.
     fn is_empty(self, cx: &Interner) -> bool
         requires { IsLive (heap cx.now) (Self.part self) }
-        ensures { (items : List Self.Item) × HasNode (heap cx.now) (Self.part self) (list_shape items) (list_kids items) × (IsTrue result ↔ (items ≡ [])) };
+        ensures { (items : List Self.Item) × HasNode (heap cx.now) (Self.part self) (list_layer items) × (IsTrue result ↔ (items ≡ [])) };
 
     /// Whether the handle is one of this interner's.
     fn holds(self, cx: &Interner) -> bool

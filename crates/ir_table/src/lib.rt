@@ -9,6 +9,7 @@ mod intern;
 mod join;
 mod laws;
 mod list_table;
+mod listed;
 mod names;
 mod parts;
 mod regions;
@@ -31,10 +32,11 @@ ghost use Rattle.std.specs.Prelude.{◌≡◌, true};
 pub use cached::Cached;
 pub use exact::Exact;
 pub use intern::{Handle, Intern, InternList};
-use ir_core::{DefaultAny, Limits, Part};
+use ir_core::{DefaultAny, Limits};
 pub use join::{AnyKind, kind_of};
-pub use laws::{equal_handles, interning_only_adds, parts_are_counted};
+pub use laws::{equal_handles, held_nodes_are_given, interning_only_adds, parts_are_counted};
 pub use list_table::{ListKey, ListTable};
+pub use listed::variables_are_listed;
 pub use names::{Names, NoNames};
 pub use parts::{Field, Fields, Kept, Kids, Node};
 pub use spelling::spell;
@@ -42,6 +44,7 @@ pub use store::EmptyList;
 use store::{Store, Tables};
 pub use table::Table;
 pub use type_lists::{inputs, output};
+pub use variable_lists::dummy;
 
 /// All terms, and the limits of these: each part is held once, and its handle is its place in the table of its sort.
 #[derive(Drop)]
@@ -52,12 +55,10 @@ pub struct Interner {
 }
 
 impl Interner {
-    ghost use Rattle.ir_laws.specs.Counts.{size};
-    ghost use Rattle.ir_laws.specs.Heap.{Each, IsLive, size_cap, tree_of};
+    ghost use Rattle.ir_laws.specs.Heap.{Each};
     ghost use Rattle.ir_table.specs.Interner.{asked, heap, state};
     ghost use Rattle.ir_table.specs.Limits.{limits_seen};
     ghost use Rattle.ir_table.specs.Start.{Names, named_start};
-    ghost use Rattle.std.specs.Prelude.{min};
 
     /// The limits that it was made with, as they were given.
     pub fn limits(&self) -> Limits
@@ -85,13 +86,5 @@ impl Interner {
         ensures { result ≡ asked self.now }
     {
         self.store.asked
-    }
-
-    /// The size of the part's tree, which ends at 2^48 + 1.
-    pub fn size_of(&self, part: Part) -> u64
-        requires { IsLive (heap self.now) part }
-        ensures { result ≡ min size_cap (size (tree_of (heap self.now) part)) }
-    {
-        self.store.cached(part).size
     }
 }

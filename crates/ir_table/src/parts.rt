@@ -1,5 +1,5 @@
 //! Nodes one layer deep, and what is kept beside them.
-use ir_core::{Part, TypeFlags};
+use ir_core::{BoundVarKind, BoundVarKinds, DebruijnIndex, Part, TypeFlags};
 use ir_laws::{Keyword, Word};
 
 /// What the tables keep beside each node.
@@ -11,12 +11,17 @@ pub struct Kept {
     pub size: u64,
     /// What the tree holds.
     pub flags: TypeFlags,
+    /// How many binders outside of it the tree speaks of.
+    pub outer_exclusive_binder: DebruijnIndex,
 }
 
 /// What a node's label keeps beside its word.
 #[derive(Clone, Copy, PartialEq, Eq, Debug)]
 pub enum Field {
     Chosen(Keyword),
+    /// The index or the number of a variable.
+    Number(u32),
+    OfKind(BoundVarKind),
 }
 
 /// The fields of a node, in order.
@@ -69,10 +74,12 @@ impl Kids {
     }
 }
 
-/// A node that is no list: its word, its fields and its kids.
+/// A node that is no list: its word, its fields, the list of the variables that it binds, and its kids.
 #[derive(Clone, Copy, PartialEq, Eq, Debug)]
 pub struct Node {
     pub word: Word,
     pub fields: Fields,
+    /// None where the node is no binder; an empty list is a binder without variables.
+    pub binder: Option<BoundVarKinds>,
     pub kids: Kids,
 }

@@ -1,11 +1,11 @@
 //! Regions.
 ghost use Rattle.ir_core.specs.declared.handles.Part.TheVariants as part;
-ghost use Rattle.ir_laws.specs.Heap.{Each, IsLive};
 ghost use Rattle.ir_table.specs.Interner.{rises, stored};
-ghost use Rattle.ir_table.specs.Kinds.{heap_of, region_shape};
+ghost use Rattle.ir_table.specs.Kinds.{region_layer};
 ghost use Rattle.ir_table.specs.State.{NewAnswers};
-ghost use Rattle.std.specs.Prelude.{◌≡◌, []};
+ghost use Rattle.std.specs.Prelude.{◌≡◌};
 
+use crate::above::region_own;
 use crate::split::region_node;
 use crate::store::Store;
 use crate::{Handle, Intern, Interner};
@@ -14,7 +14,7 @@ use ir_core::{Part, R, Region, RegionKind};
 impl Store {
     // The region of the kind.
     pub(crate) fn region(&mut self, kind: RegionKind) -> R<Region>
-        ensures answers { NewAnswers part.Region (stored self.old) (stored self.new) (region_shape kind) [] result }
+        ensures answers { NewAnswers part.Region (stored self.old) (stored self.new) (region_layer kind) result }
         ensures asked { self.new.asked ≡ rises self.old.asked }
     {
         self.asked = self.asked.saturating_add(1);
@@ -23,7 +23,7 @@ impl Store {
                 position: index as u32,
             });
         }
-        let cached = self.admit(self.above_node(&region_node(kind)))?;
+        let cached = self.admit(self.above_node(region_own(kind), &region_node(kind)))?;
         let index = self.tables.regions.len();
         self.tables.regions.push(kind, cached)?;
         Ok(Region {
@@ -45,9 +45,7 @@ impl Handle for Region {
 impl Intern for Region {
     type Kind = RegionKind;
 
-    ghost shape = { region_shape };
-
-    ghost kids = { λ _. [] };
+    ghost layer = { region_layer };
 
     fn new(cx: &mut Interner, kind: RegionKind) -> R<Region> {
         cx.store.region(kind)

@@ -1,9 +1,9 @@
 //! The spelling of a term, by the table of labels.
 ghost use Rattle.ir_core.specs.declared.errors.TermError.TheVariants as error;
-ghost use Rattle.ir_laws.specs.Heap.{Each, IsLive, tree_of};
-ghost use Rattle.ir_laws.specs.Spelling.{field_text as text_of_field, spell as spelling};
+ghost use Rattle.ir_laws.specs.Heap.{Each, IsLive, names_in, tree_of};
+ghost use Rattle.ir_laws.specs.Spelling.{bind_text, field_text, kind_text, spell as spelling};
 ghost use Rattle.ir_table.specs.Interner.{heap};
-ghost use Rattle.ir_table.specs.Kinds.{field_seen, node_kids, node_shape, tys_kids};
+ghost use Rattle.ir_table.specs.Kinds.{field_seen, node_layer, tys_kids, variable_seen};
 ghost use Rattle.ir_table.specs.Spelled.{
   Begins,
   IsNoList,
@@ -13,12 +13,14 @@ ghost use Rattle.ir_table.specs.Spelled.{
   part_of,
   places_text,
 };
-ghost use Rattle.std.specs.Prelude.{◌≡◌, ◌++◌, ◌∷◌, codes, Err, OnOk, OnErr};
+ghost use Rattle.std.specs.Prelude.{◌≡◌, ◌++◌, codes, Err, OnOk, OnErr, map as mapped};
 
 use crate::parts::{Field, Node};
 use crate::split::{const_node, region_node, ty_node};
 use crate::{Intern, InternList, Interner, Names};
-use ir_core::{AnyTerm, Part, R, Text, Ty};
+use ir_core::{
+    AnyTerm, BoundRegionKind, BoundTyKind, BoundVarKind, Part, R, SolverDefId, Text, Ty,
+};
 use ir_laws::Part as Place;
 use std::alloc::Global;
 
@@ -37,14 +39,13 @@ pub fn spell<N: Names>(
     ensures ok { OnOk result (out.new ≡ out.old ++ spelling (name_text (N.named names.now)) (tree_of (heap cx.now) (part_of term))) }
     ensures err { OnErr result ((out.new ≡ out.old) × (result ≡ Err error.Memory)) }
 {
-    let _ = alloc;
     let part = match term {
         AnyTerm::Ty(ty) => Part::Ty(ty),
         AnyTerm::Region(region) => Part::Region(region),
         AnyTerm::Const(konst) => Part::Const(konst),
     };
     let length = out.as_bytes().len();
-    let answer = spell_part(cx, names, part, out);
+    let answer = spell_part(alloc, cx, names, part, out);
     if answer.is_err() {
         out.truncate(length);
     }
@@ -53,16 +54,22 @@ pub fn spell<N: Names>(
 
 // The part, whatever it is.
 #[cycle(spelling)]
-fn spell_part<N: Names>(cx: &Interner, names: &N, part: Part, out: &mut Text) -> R<()>
+fn spell_part<N: Names>(
+    alloc: Global,
+    cx: &Interner,
+    names: &N,
+    part: Part,
+    out: &mut Text,
+) -> R<()>
     requires { IsLive (heap cx.now) part }
     ensures ok { OnOk result (out.new ≡ out.old ++ spelling (name_text (N.named names.now)) (tree_of (heap cx.now) part)) }
     ensures err { OnErr result (Begins out.old out.new × (result ≡ Err error.Memory)) }
 {
     match part {
-        Part::Ty(ty) => spell_node(cx, names, &ty_node(ty.kind(cx)), out),
-        Part::Region(region) => spell_node(cx, names, &region_node(region.kind(cx)), out),
-        Part::Const(konst) => spell_node(cx, names, &const_node(konst.kind(cx)), out),
-        Part::Tys(tys) => spell_tys(cx, names, tys.as_slice(cx), out),
+        Part::Ty(ty) => spell_node(alloc, cx, names, &ty_node(ty.kind(cx)), out),
+        Part::Region(region) => spell_node(alloc, cx, names, &region_node(region.kind(cx)), out),
+        Part::Const(konst) => spell_node(alloc, cx, names, &const_node(konst.kind(cx)), out),
+        Part::Tys(tys) => spell_tys(alloc, cx, names, tys.as_slice(cx), out),
         // The other lists have no kids.
         _ => out.append(b"()"),
     }
@@ -70,10 +77,16 @@ fn spell_part<N: Names>(cx: &Interner, names: &N, part: Part, out: &mut Text) ->
 
 // A node that is no list: a bare word, or the word and its places in brackets.
 #[cycle(spelling)]
-fn spell_node<N: Names>(cx: &Interner, names: &N, node: &Node, out: &mut Text) -> R<()>
-    requires live { Each (IsLive (heap cx.now)) (node_kids node.now) }
-    requires no_list { IsNoList (node_shape node.now) }
-    ensures ok { OnOk result (out.new ≡ out.old ++ node_text (name_text (N.named names.now)) (heap cx.now) (node_shape node.now) (node_kids node.now)) }
+fn spell_node<N: Names>(
+    alloc: Global,
+    cx: &Interner,
+    names: &N,
+    node: &Node,
+    out: &mut Text,
+) -> R<()>
+    requires live { Each (IsLive (heap cx.now)) (names_in (node_layer node.now)) }
+    requires no_list { IsNoList (node_layer node.now).label }
+    ensures ok { OnOk result (out.new ≡ out.old ++ node_text (name_text (N.named names.now)) (heap cx.now) (node_layer node.now)) }
     ensures err { OnErr result (Begins out.old out.new × (result ≡ Err error.Memory)) }
 {
     let word = node.word.text();
@@ -82,20 +95,21 @@ fn spell_node<N: Names>(cx: &Interner, names: &N, node: &Node, out: &mut Text) -
         return out.append(word);
     }
     append_both(out, b"(", word)?;
-    spell_places(cx, names, places, node, out)?;
+    spell_places(alloc, cx, names, places, node, out)?;
     out.append(b")")
 }
 
 // What stands behind the word of a node: in each place its word, the next field or the next kid, behind a space. It ends where these run out.
 #[cycle(spelling)]
 fn spell_places<N: Names>(
+    alloc: Global,
     cx: &Interner,
     names: &N,
     places: &[Place],
     node: &Node,
     out: &mut Text,
 ) -> R<()>
-    requires { Each (IsLive (heap cx.now)) (node_kids node.now) }
+    requires { Each (IsLive (heap cx.now)) (names_in (node_layer node.now)) }
     ensures ok { OnOk result (out.new ≡ out.old ++ places_text (name_text (N.named names.now)) (heap cx.now) places.now node.now) }
     ensures err { OnErr result (Begins out.old out.new × (result ≡ Err error.Memory)) }
 {
@@ -104,13 +118,16 @@ fn spell_places<N: Names>(
     for place in places {
         match *place {
             Place::Fixed(word) => append_both(out, b" ", word.text())?,
-            // No node binds variables.
-            Place::ForGroup => {}
+            Place::ForGroup => {
+                if let Some(variables) = node.binder {
+                    spell_variables(names, variables.as_slice(cx), out)?;
+                }
+            }
             Place::AField(_) => {
                 let Some(field) = node.fields.get(fields) else {
                     return Ok(());
                 };
-                append_both(out, b" ", field_text(names, field))?;
+                spell_field(alloc, names, field, out)?;
                 fields += 1;
             }
             Place::AKid(_) => {
@@ -118,7 +135,7 @@ fn spell_places<N: Names>(
                     return Ok(());
                 };
                 out.append(b" ")?;
-                spell_part(cx, names, kid, out)?;
+                spell_part(alloc, cx, names, kid, out)?;
                 kids += 1;
             }
         }
@@ -128,7 +145,7 @@ fn spell_places<N: Names>(
 
 // The types in brackets.
 #[cycle(spelling)]
-fn spell_tys<N: Names>(cx: &Interner, names: &N, tys: &[Ty], out: &mut Text) -> R<()>
+fn spell_tys<N: Names>(alloc: Global, cx: &Interner, names: &N, tys: &[Ty], out: &mut Text) -> R<()>
     requires { Each (IsLive (heap cx.now)) (tys_kids tys.now) }
     ensures ok { OnOk result (out.new ≡ out.old ++ list_text (name_text (N.named names.now)) (heap cx.now) tys.now) }
     ensures err { OnErr result (Begins out.old out.new × (result ≡ Err error.Memory)) }
@@ -137,22 +154,64 @@ fn spell_tys<N: Names>(cx: &Interner, names: &N, tys: &[Ty], out: &mut Text) -> 
         return out.append(b"()");
     };
     out.append(b"(")?;
-    spell_part(cx, names, Part::Ty(*first), out)?;
+    spell_part(alloc, cx, names, Part::Ty(*first), out)?;
     for ty in rest {
         out.append(b" ")?;
-        spell_part(cx, names, Part::Ty(*ty), out)?;
+        spell_part(alloc, cx, names, Part::Ty(*ty), out)?;
     }
     out.append(b")")
 }
 
-// The text of a field.
-fn field_text<N: Names>(names: &N, field: Field) -> &'static [u8]
-    ensures { result.now ≡ text_of_field (name_text (N.named names.now)) (field_seen field) }
+// The variables of a binder behind a space, as a group that begins with `for`.
+fn spell_variables<N: Names>(names: &N, variables: &[BoundVarKind], out: &mut Text) -> R<()>
+    ensures ok { OnOk result (out.new ≡ out.old ++ (codes " " ++ bind_text (name_text (N.named names.now)) (mapped variable_seen variables.now))) }
+    ensures err { OnErr result (Begins out.old out.new × (result ≡ Err error.Memory)) }
 {
-    // No field is an item.
-    let _ = names;
+    out.append(b" (for")?;
+    for variable in variables {
+        out.append(b" ")?;
+        spell_variable(names, *variable, out)?;
+    }
+    out.append(b")")
+}
+
+// A field behind a space.
+fn spell_field<N: Names>(alloc: Global, names: &N, field: Field, out: &mut Text) -> R<()>
+    ensures ok { OnOk result (out.new ≡ out.old ++ (codes " " ++ field_text (name_text (N.named names.now)) (field_seen field))) }
+    ensures err { OnErr result (Begins out.old out.new × (result ≡ Err error.Memory)) }
+{
+    out.append(b" ")?;
     match field {
-        Field::Chosen(keyword) => keyword.text(),
+        Field::Chosen(keyword) => out.append(keyword.text()),
+        Field::Number(number) => out.append(number.to_string(alloc)?.as_bytes()),
+        Field::OfKind(kind) => spell_variable(names, kind, out),
+    }
+}
+
+// What a variable is: the letter of its sort, with the name of the item that declares it behind a colon, or `env`.
+fn spell_variable<N: Names>(names: &N, kind: BoundVarKind, out: &mut Text) -> R<()>
+    ensures ok { OnOk result (out.new ≡ out.old ++ kind_text (name_text (N.named names.now)) (variable_seen kind)) }
+    ensures err { OnErr result (Begins out.old out.new × (result ≡ Err error.Memory)) }
+{
+    match kind {
+        BoundVarKind::Ty(BoundTyKind::Anon) => out.append(b"t"),
+        BoundVarKind::Ty(BoundTyKind::Param(id)) => append_both(out, b"t:", name_of(names, id)),
+        BoundVarKind::Region(BoundRegionKind::Anon) => out.append(b"r"),
+        BoundVarKind::Region(BoundRegionKind::Named(id)) => {
+            append_both(out, b"r:", name_of(names, id))
+        }
+        BoundVarKind::Region(BoundRegionKind::ClosureEnv) => out.append(b"env"),
+        BoundVarKind::Const => out.append(b"c"),
+    }
+}
+
+// The name of the item, or `?`.
+fn name_of<N: Names>(names: &N, id: SolverDefId) -> &[u8]
+    ensures { result.now ≡ name_text (N.named names.now) id }
+{
+    match names.name(id) {
+        Some(name) => name.as_bytes(),
+        None => b"?",
     }
 }
 

@@ -6,9 +6,11 @@ ghost use Rattle.ir_table.specs.Interner.{heap};
 use crate::{
     Cached, Exact, Intern, InternList, Interner, ListKey, ListTable, Table, inputs, output,
 };
+use bitflags::Flags;
 use ir_core::{
-    BoundRegionKind, BoundVarKind, BoundVarKinds, Const, ConstKind, ErrorGuaranteed, IntTy, Limits,
-    Mutability, R, TermError, Ty, TyKind, TypeFlags, Tys, Variance, VariancesOf,
+    BoundRegion, BoundRegionKind, BoundVar, BoundVarIndexKind, BoundVarKind, BoundVarKinds, Const,
+    ConstKind, DebruijnIndex, ErrorGuaranteed, IntTy, Limits, Mutability, R, Region, RegionKind,
+    TermError, Ty, TyKind, TypeFlags, Tys, Variance, VariancesOf,
 };
 use smallvec::SmallVec;
 use std::alloc::{AllocError, Global};
@@ -134,14 +136,14 @@ fn the_start_names_its_parts(rt: HostRuntime) -> Result<(), Fail> {
     Ok(())
 }
 
-/// How many items the empty lists have together, where they are empty.
-fn empty_lists_have(alloc: Global) -> R<usize> {
+/// Whether the lists that are called empty have no items.
+fn empty_lists_have_no_items(alloc: Global) -> R<bool> {
     let cx = Interner::new(alloc, room_for(39))?;
     let types = Tys::empty(&cx);
-    if !types.is_empty(&cx) {
-        return Ok(1);
-    }
-    Ok(types.len(&cx) + VariancesOf::empty(&cx).len(&cx) + BoundVarKinds::empty(&cx).len(&cx))
+    let have_none = types.len(&cx) == 0
+        && VariancesOf::empty(&cx).len(&cx) == 0
+        && BoundVarKinds::empty(&cx).len(&cx) == 0;
+    Ok(types.is_empty(&cx) && have_none)
 }
 
 /// What a pointer to an error holds.
@@ -154,8 +156,39 @@ fn flags_of_a_pointer(alloc: Global) -> R<TypeFlags> {
 
 #[test]
 fn empty_lists_are_empty_and_flags_are_kept(rt: HostRuntime) -> Result<(), Fail> {
-    assert_eq!(rt; empty_lists_have(rt.alloc())?, 0);
+    assert!(rt; empty_lists_have_no_items(rt.alloc())?);
     assert_eq!(rt; flags_of_a_pointer(rt.alloc())?, TypeFlags::HAS_ERROR);
+    Ok(())
+}
+
+/// The flags of a region, and how many binders outside of it it speaks of.
+fn region_told(alloc: Global, kind: RegionKind) -> R<(TypeFlags, u32)> {
+    let mut cx = Interner::new(alloc, room_for(40))?;
+    let told = Region::new(&mut cx, kind)?.inner(&cx);
+    Ok((told.flags, told.outer_exclusive_binder.0))
+}
+
+#[test]
+fn regions_tell_the_binders_outside_of_them(rt: HostRuntime) -> Result<(), Fail> {
+    let bound = BoundRegion {
+        var: BoundVar(0),
+        kind: BoundRegionKind::Anon,
+    };
+    let canonical = TypeFlags::HAS_RE_BOUND.union(TypeFlags::HAS_CANONICAL_BOUND);
+    let rows: [(RegionKind, (TypeFlags, u32)); 3] = [
+        (
+            RegionKind::ReBound(BoundVarIndexKind::Bound(DebruijnIndex(2)), bound),
+            (TypeFlags::HAS_RE_BOUND, 3),
+        ),
+        (
+            RegionKind::ReBound(BoundVarIndexKind::Canonical, bound),
+            (canonical, 0),
+        ),
+        (RegionKind::ReStatic, (TypeFlags::HAS_FREE_REGIONS, 0)),
+    ];
+    for (kind, want) in rows {
+        assert_eq!(rt; region_told(rt.alloc(), kind)?, want);
+    }
     Ok(())
 }
 

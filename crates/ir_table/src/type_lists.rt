@@ -1,9 +1,9 @@
 //! Lists of types.
 ghost use Rattle.ir_core.specs.declared.handles.Part.TheVariants as part;
 ghost use Rattle.ir_core.specs.declared.handles.Ty.{Ty as TySeen};
-ghost use Rattle.ir_laws.specs.Heap.{Each, IsLive};
+ghost use Rattle.ir_laws.specs.Heap.{Each, IsLive, names_in};
 ghost use Rattle.ir_table.specs.Interner.{HasTypes, heap, rises, stored};
-ghost use Rattle.ir_table.specs.Kinds.{heap_of, tys_shape, tys_kids};
+ghost use Rattle.ir_table.specs.Kinds.{heap_of, tys_layer};
 ghost use Rattle.ir_table.specs.State.{NewAnswers};
 ghost use Rattle.std.specs.Prelude.{◌≡◌, ◌++◌, ◌<◌, [], ◌∷◌, length, List};
 
@@ -15,8 +15,8 @@ use smallvec::SmallVec;
 impl Store {
     // The list of the items.
     pub(crate) fn tys(&mut self, items: &[Ty]) -> R<Tys>
-        requires { Each (IsLive (heap_of self.old.tables)) (tys_kids items.now) }
-        ensures answers { NewAnswers part.Tys (stored self.old) (stored self.new) (tys_shape items.now) (tys_kids items.now) result }
+        requires { Each (IsLive (heap_of self.old.tables)) (names_in (tys_layer items.now)) }
+        ensures answers { NewAnswers part.Tys (stored self.old) (stored self.new) (tys_layer items.now) result }
         ensures asked { self.new.asked ≡ rises self.old.asked }
     {
         self.asked = self.asked.saturating_add(1);
@@ -48,9 +48,7 @@ impl Handle for Tys {
 impl InternList for Tys {
     type Item = Ty;
 
-    ghost list_shape = { tys_shape };
-
-    ghost list_kids = { tys_kids };
+    ghost list_layer = { tys_layer };
 
     fn empty(cx: &Interner) -> Tys {
         cx.defaults.empty.tys

@@ -1,21 +1,22 @@
 //! Lists of the variables that a binder binds.
 ghost use Rattle.ir_core.specs.declared.handles.Part.TheVariants as part;
-ghost use Rattle.ir_laws.specs.Heap.{Each, IsLive};
-ghost use Rattle.ir_table.specs.Interner.{rises, stored};
-ghost use Rattle.ir_table.specs.Kinds.{heap_of, variables_shape};
+ghost use Rattle.ir_laws.specs.Counts.{outer};
+ghost use Rattle.ir_laws.specs.Heap.{Each, HasNode, IsLive};
+ghost use Rattle.ir_table.specs.Interner.{heap, rises, stored};
+ghost use Rattle.ir_table.specs.Kinds.{variables_layer};
 ghost use Rattle.ir_table.specs.State.{NewAnswers};
 ghost use Rattle.std.specs.Prelude.{◌≡◌, []};
 
 use crate::above::Above;
 use crate::store::Store;
-use crate::{Handle, InternList, Interner, ListKey};
-use ir_core::{BoundVarKind, BoundVarKinds, Part, R};
+use crate::{Cached, Handle, InternList, Interner, ListKey};
+use ir_core::{Binder, BoundVarKind, BoundVarKinds, Part, R};
 use smallvec::SmallVec;
 
 impl Store {
     // The list of the items.
     pub(crate) fn variables(&mut self, items: &[BoundVarKind]) -> R<BoundVarKinds>
-        ensures answers { NewAnswers part.BoundVarKinds (stored self.old) (stored self.new) (variables_shape items.now) [] result }
+        ensures answers { NewAnswers part.BoundVarKinds (stored self.old) (stored self.new) (variables_layer items.now) result }
         ensures asked { self.new.asked ≡ rises self.old.asked }
     {
         self.asked = self.asked.saturating_add(1);
@@ -47,9 +48,7 @@ impl Handle for BoundVarKinds {
 impl InternList for BoundVarKinds {
     type Item = BoundVarKind;
 
-    ghost list_shape = { variables_shape };
-
-    ghost list_kids = { λ _. [] };
+    ghost list_layer = { variables_layer };
 
     fn empty(cx: &Interner) -> BoundVarKinds {
         cx.defaults.empty.bound_var_kinds
@@ -74,4 +73,14 @@ impl InternList for BoundVarKinds {
     fn holds(self, cx: &Interner) -> bool {
         (self.position as usize) < cx.store.tables.variable_lists.len()
     }
+}
+
+/// The value under a binder of no variables. It must speak of no binder outside of it, since it would then speak of this one.
+pub fn dummy<T: Cached>(cx: &Interner, value: T) -> Binder<T>
+    requires live { Each (IsLive (heap cx.now)) (T.names value) }
+    requires closed { outer (T.tree (heap cx.now) value) ≡ 0 }
+    ensures value { result.value ≡ value }
+    ensures variables { HasNode (heap cx.now) (part.BoundVarKinds result.bound_vars) (variables_layer []) }
+{
+    Binder::bind_with_vars(value, BoundVarKinds::empty(cx))
 }

@@ -1,10 +1,9 @@
 //! Lists of variances.
 ghost use Rattle.ir_core.specs.declared.handles.Part.TheVariants as part;
-ghost use Rattle.ir_laws.specs.Heap.{Each, IsLive};
 ghost use Rattle.ir_table.specs.Interner.{rises, stored};
-ghost use Rattle.ir_table.specs.Kinds.{heap_of, variances_shape};
+ghost use Rattle.ir_table.specs.Kinds.{variances_layer};
 ghost use Rattle.ir_table.specs.State.{NewAnswers};
-ghost use Rattle.std.specs.Prelude.{◌≡◌, []};
+ghost use Rattle.std.specs.Prelude.{◌≡◌};
 
 use crate::above::Above;
 use crate::store::Store;
@@ -15,7 +14,7 @@ use smallvec::SmallVec;
 impl Store {
     // The list of the items.
     pub(crate) fn variances(&mut self, items: &[Variance]) -> R<VariancesOf>
-        ensures answers { NewAnswers part.VariancesOf (stored self.old) (stored self.new) (variances_shape items.now) [] result }
+        ensures answers { NewAnswers part.VariancesOf (stored self.old) (stored self.new) (variances_layer items.now) result }
         ensures asked { self.new.asked ≡ rises self.old.asked }
     {
         self.asked = self.asked.saturating_add(1);
@@ -47,9 +46,7 @@ impl Handle for VariancesOf {
 impl InternList for VariancesOf {
     type Item = Variance;
 
-    ghost list_shape = { variances_shape };
-
-    ghost list_kids = { λ _. [] };
+    ghost list_layer = { variances_layer };
 
     fn empty(cx: &Interner) -> VariancesOf {
         cx.defaults.empty.variances

@@ -201,11 +201,13 @@ fn name(number: u32) -> [u8; 3]
     [b'A', b'a' + (number / 16) as u8, b'a' + (number % 16) as u8]
 }
 
-// A name for `u8`, and then so many more, each for a tuple of so many of the one before.
-fn chain(alloc: Global, lines: u32, members: u32) -> R<Text>
+// A name for the first term, and then so many more, each for a tuple of so many of the one before.
+fn chain(alloc: Global, first: &[u8], lines: u32, members: u32) -> R<Text>
     requires { lines ≤ 256 }
 {
-    let mut script = Text::from_bytes(alloc, b"let Aaa u8\n")?;
+    let mut script = Text::from_bytes(alloc, b"let Aaa ")?;
+    script.append(first)?;
+    script.append(b"\n")?;
     for number in 0..lines {
         script.append(b"let ")?;
         script.append(&name(number + 1))?;
@@ -222,10 +224,10 @@ fn chain(alloc: Global, lines: u32, members: u32) -> R<Text>
 #[test]
 fn names_build_on_names(rt: HostRuntime) -> Result<(), Fail> {
     let alloc = rt.alloc();
-    assert!(rt; gives(alloc, chain(alloc, 255, 1)?.as_bytes(), b""));
-    let high = chain(alloc, 256, 1)?;
+    assert!(rt; gives(alloc, chain(alloc, b"u8", 255, 1)?.as_bytes(), b""));
+    let high = chain(alloc, b"u8", 256, 1)?;
     assert_eq!(rt; fault(alloc, high.as_bytes()), Some((257, Cause::TooDeep)));
-    let wide = chain(alloc, 40, 2)?;
+    let wide = chain(alloc, b"u8", 40, 2)?;
     let alike = between(alloc, b"", &wide, b"same Aci Aci")?;
     assert!(rt; gives(alloc, alike.as_bytes(), b"yes\n"));
     let printed = between(alloc, b"", &wide, b"print Aci")?;
@@ -238,4 +240,77 @@ fn names_build_on_names(rt: HostRuntime) -> Result<(), Fail> {
         .map(|error| (error.line, error.cause));
     assert_eq!(rt; refused, Some((42, Cause::TooLarge)));
     Ok(())
+}
+
+#[test]
+fn variables_of_a_shared_term_are_looked_at_once(rt: HostRuntime) -> Result<(), Fail> {
+    let alloc = rt.alloc();
+    let wide = chain(alloc, b"(var 0 0 t)", 40, 2)?;
+    let flags = between(alloc, b"", &wide, b"flags Aci")?;
+    assert!(rt; gives(alloc, flags.as_bytes(), b"outer 1 HAS_TY_BOUND\n"));
+    let bound = b"same (unsafe (for t) Aci) (unsafe (for t) Aci)";
+    let alike = between(alloc, b"", &wide, bound)?;
+    assert!(rt; gives(alloc, alike.as_bytes(), b"yes\n"));
+    let bound = between(alloc, b"", &wide, b"flags (unsafe (for r) Aci)")?;
+    assert_eq!(rt; fault(alloc, bound.as_bytes()), Some((42, Cause::Unlisted)));
+    Ok(())
+}
+
+#[test]
+fn binders_and_variables_are_answered(rt: HostRuntime) {
+    let alloc = rt.alloc();
+    let rows: [(&[u8], &[u8]); 8] = [
+        (b"print (var 65535 65535 t)", b"(var 65535 65535 t)\n"),
+        (
+            b"print (unsafe (for t r c env) (tuple ((var 0 0 t) (ref mut (var 0 3 env) (var 1 7 t)))))",
+            b"(unsafe (for t r c env) (tuple ((var 0 0 t) (ref mut (var 0 3 env) (var 1 7 t)))))\n",
+        ),
+        (
+            b"flags (fnptr (for r) safe Rust fixed ((ref not (var 0 0 r) u8) (tuple ())))",
+            b"outer 0 HAS_RE_BOUND HAS_BINDER_VARS\n",
+        ),
+        (b"flags (ref not (var 2 0 r) u8)", b"outer 3 HAS_RE_BOUND\n"),
+        (b"flags u8", b"outer 0\n"),
+        (
+            b"flags (var * 0 c)",
+            b"outer 0 HAS_CT_BOUND HAS_CANONICAL_BOUND\n",
+        ),
+        (b"flags (unsafe (for) u8)", b"outer 0\n"),
+        (
+            b"same (unsafe (for) u8) (unsafe (for t) u8)\nsame (var 0 0 t) (var 0 0 t)",
+            b"no\nyes\n",
+        ),
+    ];
+    for (script, lines) in rows {
+        assert!(rt; gives(alloc, script, lines));
+    }
+}
+
+#[test]
+fn variables_are_of_their_binders(rt: HostRuntime) {
+    let alloc = rt.alloc();
+    let rows: [(&[u8], (u64, Cause)); 10] = [
+        (
+            b"print (unsafe (for r) (ref not (var 0 1 r) u8))",
+            (1, Cause::Unlisted),
+        ),
+        (
+            b"print (unsafe (for r) (ref not (var 0 0 env) u8))",
+            (1, Cause::Unlisted),
+        ),
+        (
+            b"print (unsafe (for r) (unsafe (for) (ref not (var 1 1 r) u8)))",
+            (1, Cause::Unlisted),
+        ),
+        (b"same u8 (unsafe (for) (var 0 0 t))", (1, Cause::Unlisted)),
+        (b"print (fnptr (for) safe Rust fixed ())", (1, Cause::Arity)),
+        (b"print (var 65536 0 t)", (1, Cause::TooDeep)),
+        (b"print (var * 65536 t)", (1, Cause::TooDeep)),
+        (b"print (var 4294967296 0 t)", (1, Cause::Syntax)),
+        (b"print (unsafe (for t:A) u8)", (1, Cause::Unknown)),
+        (b"let A u8\nprint (unsafe (for t:A) u8)", (2, Cause::Sort)),
+    ];
+    for (script, want) in rows {
+        assert_eq!(rt; fault(alloc, script), Some(want));
+    }
 }

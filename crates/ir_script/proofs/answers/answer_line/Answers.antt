@@ -1,7 +1,7 @@
 use Rattle.std.proofs.Common.{◌≡◌, ◌∙◌, ap, sym, subst, Option, Some}
 use Rattle.std.specs.Option.{option_map}
 use Rattle.ir_laws.specs.Expression.{expr_list}
-use Rattle.ir_laws.specs.Form.{Form, Let, Print, Same, form_of}
+use Rattle.ir_laws.specs.Form.{Form, Let, Print, Same, Flags, form_of}
 use Rattle.ir_laws.specs.Limits.{Limits, capped}
 use Rattle.ir_laws.specs.Phrase.{Phrase}
 use Rattle.ir_table.specs.Interner.{heap, state}
@@ -23,6 +23,10 @@ declare-requires-clause-formed c = form_formed (expr_list (exprs_in c.as_slice.r
 pub same-requires-clause-formed : goal.same-requires-clause-formed
 same-requires-clause-formed c = form_formed (expr_list (exprs_in c.as_slice.result.now)) (Same (phrase_seen c.in-Some-Same.first) (phrase_seen c.in-Some-Same.second))
     (sym c.in_ok-form_of_items.ensures.read ∙ ap (option_map form_seen) (c.in-Some-Same.is ∙ ap Some c.in-Some-Same.field-0-is))
+
+pub flags-requires-clause-formed : goal.flags-requires-clause-formed
+flags-requires-clause-formed c = form_formed (expr_list (exprs_in c.as_slice.result.now)) (Flags (phrase_seen c.in-Some-Flags.phrase))
+    (sym c.in_ok-form_of_items.ensures.read ∙ ap (option_map form_seen) (c.in-Some-Flags.is ∙ ap Some c.in-Some-Flags.field-0-is))
 
 pub returns-in-Some-Let-clause-answers : goal.returns-in-Some-Let-clause-answers
 returns-in-Some-Let-clause-answers c held just =

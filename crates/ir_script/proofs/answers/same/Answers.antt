@@ -1,4 +1,4 @@
-use Rattle.std.proofs.Common.{◌∙◌, refl, sym}
+use Rattle.std.proofs.Common.{◌∙◌, true, false, refl, sym}
 use Rattle.std.proofs.lemmas.Bool.{and_parts}
 use Rattle.ir_laws.specs.Form.{Same}
 use Rattle.ir_laws.specs.Formed.{is_formed}
@@ -9,9 +9,8 @@ use Rattle.ir_script.specs.declared.causes.Cause.TheVariants as code
 use Rattle.ir_script.specs.Phrases.{phrase_seen}
 use Rattle.ir_script.specs.Scope.{names_in}
 use Rattle.ir_script.proofs.BuildLemmas.{built_under}
-use Rattle.ir_script.proofs.PlainLemmas.{seen_simple}
 use Rattle.ir_script.proofs.ScopeLemmas.{terms_later}
-use Rattle.ir_script.proofs.FormLemmas.{name_fault, sort_fault, buildable, same_known, first_unknown, second_unknown, first_misfit, second_misfit, first_refused, second_refused, same_answered}
+use Rattle.ir_script.proofs.FormLemmas.{name_fault, sort_fault, buildable, same_known, first_unknown, second_unknown, first_misfit, second_misfit, first_refused, second_refused, same_unlisted, same_answered}
 use Rattle.ir_script.proofs.answers.same.Goals as goal
 use Rattle.ir_script.proofs.answers.same.Goals.{then-unknown_name-via-then-unknown_name, then-unknown_name-via-else-unknown_name+then-unknown_name-2}
 
@@ -50,7 +49,7 @@ returns-in-Err-clause-answers c held just =
     let formed = and_parts (is_formed (phrase_seen c.args.first.now)) (is_formed (phrase_seen c.args.second.now)) c.requires.formed in
     first_refused (state c.args.cx.now).limits (state c.args.cx.now) refl held just (names_in c.args.scope.now) c.requires.terms (phrase_seen c.args.first.now) (phrase_seen c.args.second.now)
     (c.unknown_name.ensures.known h c.if-unknown_name.false) (c.unknown_name-else-unknown_name.ensures.known h c.if-unknown_name-2.false) (c.in_default.ensures h c.requires.terms) (c.in_default-misfit.ensures h c.requires.terms)
-    formed.0 formed.1 (seen_simple c.args.first.now) (seen_simple c.args.second.now) (sym (c.have_one_sort.ensures h c.requires.terms) ∙ c.if-not-have_one_sort.false)
+    formed.0 formed.1 (sym (c.have_one_sort.ensures h c.requires.terms) ∙ c.if-not-have_one_sort.false)
     (state c.build.new.cx) c.in-Err.error c.from.result c.args.out.now (heap c.build.new.cx) c.in-Err.ensures c.from.ensures
 
 pub build-requires-2-clause-buildable : goal.build-requires-2-clause-buildable
@@ -68,9 +67,31 @@ returns-in-Err-build-clause-answers c held just =
     let formed = and_parts (is_formed (phrase_seen c.args.first.now)) (is_formed (phrase_seen c.args.second.now)) c.requires.formed in
     second_refused (state c.args.cx.now).limits (state c.args.cx.now) refl held just (names_in c.args.scope.now) c.requires.terms (phrase_seen c.args.first.now) (phrase_seen c.args.second.now)
     (c.unknown_name.ensures.known h c.if-unknown_name.false) (c.unknown_name-else-unknown_name.ensures.known h c.if-unknown_name-2.false) (c.in_default.ensures h c.requires.terms) (c.in_default-misfit.ensures h c.requires.terms)
-    formed.0 formed.1 (seen_simple c.args.first.now) (seen_simple c.args.second.now) (sym (c.have_one_sort.ensures h c.requires.terms) ∙ c.if-not-have_one_sort.false)
+    formed.0 formed.1 (sym (c.have_one_sort.ensures h c.requires.terms) ∙ c.if-not-have_one_sort.false)
     (state c.build.new.cx) (state c.build-2.new.cx) c.in-Ok.part c.in-Err-build.error c.from-in-Err-build.result c.args.out.now (heap c.build-2.new.cx) c.in-Ok.ensures
     (built_under h (heap c.build.new.cx) (names_in c.args.scope.now) _ _ _ _ c.in-Ok.ensures.makes.grows c.requires.terms c.in-Err-build.ensures) c.from-in-Err-build.ensures
+
+pub returns-then-not-branch-clause-answers : goal.returns-then-not-branch-clause-answers
+returns-then-not-branch-clause-answers c held just =
+    let h = heap c.args.cx.now in
+    let formed = and_parts (is_formed (phrase_seen c.args.first.now)) (is_formed (phrase_seen c.args.second.now)) c.requires.formed in
+    same_unlisted (state c.args.cx.now).limits (state c.args.cx.now) refl held just (names_in c.args.scope.now) c.requires.terms (phrase_seen c.args.first.now) (phrase_seen c.args.second.now)
+    (c.unknown_name.ensures.known h c.if-unknown_name.false) (c.unknown_name-else-unknown_name.ensures.known h c.if-unknown_name-2.false) (c.in_default.ensures h c.requires.terms) (c.in_default-misfit.ensures h c.requires.terms)
+    formed.0 formed.1 (sym (c.have_one_sort.ensures h c.requires.terms) ∙ c.if-not-have_one_sort.false)
+    (state c.build.new.cx) c.build-2.new.cx c.in-Ok.part c.in-Ok-build.part c.in-Ok.ensures
+    (built_under h (heap c.build.new.cx) (names_in c.args.scope.now) _ _ _ _ c.in-Ok.ensures.makes.grows c.requires.terms c.in-Ok-build.ensures)
+    c.args.out.now false _ (sym c.in_ok-variables_are_listed.ensures.ok ∙ c.if-not-branch.true) refl refl
+
+pub returns-then-not-branch-2-clause-answers : goal.returns-then-not-branch-2-clause-answers
+returns-then-not-branch-2-clause-answers c held just =
+    let h = heap c.args.cx.now in
+    let formed = and_parts (is_formed (phrase_seen c.args.first.now)) (is_formed (phrase_seen c.args.second.now)) c.requires.formed in
+    same_unlisted (state c.args.cx.now).limits (state c.args.cx.now) refl held just (names_in c.args.scope.now) c.requires.terms (phrase_seen c.args.first.now) (phrase_seen c.args.second.now)
+    (c.unknown_name.ensures.known h c.if-unknown_name.false) (c.unknown_name-else-unknown_name.ensures.known h c.if-unknown_name-2.false) (c.in_default.ensures h c.requires.terms) (c.in_default-misfit.ensures h c.requires.terms)
+    formed.0 formed.1 (sym (c.have_one_sort.ensures h c.requires.terms) ∙ c.if-not-have_one_sort.false)
+    (state c.build.new.cx) c.build-2.new.cx c.in-Ok.part c.in-Ok-build.part c.in-Ok.ensures
+    (built_under h (heap c.build.new.cx) (names_in c.args.scope.now) _ _ _ _ c.in-Ok.ensures.makes.grows c.requires.terms c.in-Ok-build.ensures)
+    c.args.out.now true false (sym c.in_ok-variables_are_listed.ensures.ok ∙ c.if-not-branch.false) (sym c.in_ok-variables_are_listed-2.ensures.ok ∙ c.if-not-branch-2.true) refl
 
 pub returns-clause-answers : goal.returns-clause-answers
 returns-clause-answers c held just =
@@ -78,9 +99,10 @@ returns-clause-answers c held just =
     let formed = and_parts (is_formed (phrase_seen c.args.first.now)) (is_formed (phrase_seen c.args.second.now)) c.requires.formed in
     same_answered (state c.args.cx.now).limits (state c.args.cx.now) refl held just (names_in c.args.scope.now) c.requires.terms (phrase_seen c.args.first.now) (phrase_seen c.args.second.now)
     (c.unknown_name.ensures.known h c.if-unknown_name.false) (c.unknown_name-else-unknown_name.ensures.known h c.if-unknown_name-2.false) (c.in_default.ensures h c.requires.terms) (c.in_default-misfit.ensures h c.requires.terms)
-    formed.0 formed.1 (seen_simple c.args.first.now) (seen_simple c.args.second.now) (sym (c.have_one_sort.ensures h c.requires.terms) ∙ c.if-not-have_one_sort.false)
-    (state c.build.new.cx) c.build-2.new.cx c.in-Ok.part c.in-Ok-build.part c.args.out.now c.yes_or_no.result.now c.append.new.self c.in-Ok.ensures
-    (built_under h (heap c.build.new.cx) (names_in c.args.scope.now) _ _ _ _ c.in-Ok.ensures.makes.grows c.requires.terms c.in-Ok-build.ensures) c.yes_or_no.ensures c.in_ok-append.ensures.ok
+    formed.0 formed.1 (sym (c.have_one_sort.ensures h c.requires.terms) ∙ c.if-not-have_one_sort.false)
+    (state c.build.new.cx) c.build-2.new.cx c.in-Ok.part c.in-Ok-build.part c.in-Ok.ensures
+    (built_under h (heap c.build.new.cx) (names_in c.args.scope.now) _ _ _ _ c.in-Ok.ensures.makes.grows c.requires.terms c.in-Ok-build.ensures)
+    c.args.out.now c.yes_or_no.result.now c.append.new.self (sym c.in_ok-variables_are_listed.ensures.ok ∙ c.if-not-branch.false) (sym c.in_ok-variables_are_listed-2.ensures.ok ∙ c.if-not-branch-2.false) c.yes_or_no.ensures c.in_ok-append.ensures.ok
 
 pub returns-clause-terms : goal.returns-clause-terms
 returns-clause-terms c =

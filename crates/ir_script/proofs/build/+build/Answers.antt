@@ -1,7 +1,7 @@
 use Rattle.std.proofs.Common.{◌≡◌, is_some, [], Some, Ok, Err, Result, map, refl, sym, ap, subst, ◌+◌, ◌∙◌, rules}
+use Rattle.std.specs.List.{list_all}
 use Rattle.std.proofs.lemmas.Result.{err_from_is_err_and}
 use Rattle.ir_core.specs.declared.errors.TermError.{TermError}
-use Rattle.ir_core.specs.declared.errors.TermError.TheVariants.{Memory}
 use Rattle.ir_core.specs.declared.handles.Part.{Part}
 use Rattle.ir_core.specs.declared.handles.Part.TheVariants as part
 use Rattle.ir_laws.specs.declared.labels.Sort.TheVariants.{OfType}
@@ -16,26 +16,23 @@ use Rattle.ir_table.proofs.CallerLemmas.{live_sort}
 use Rattle.ir_script.specs.declared.phrases.Phrase.{the_lemmas}
 use Rattle.ir_script.specs.Built.{AllSuit, Builds, BuildsAll}
 use Rattle.ir_script.specs.Causes.{no_names}
+use Rattle.ir_script.specs.Makeable.{is_nameless_field}
 use Rattle.ir_script.specs.Phrases.{field_seen, phrase_seen, phrases_seen}
-use Rattle.ir_script.proofs.BuildLemmas.{phrase_is, label_kids_buildable, kids_refused, label_types, list_shape, label_fits, label_shape, label_made, label_refused, label_answers, BuiltSoFar, none_so_far, buildable_at, next_taken, next_makes, one_more, all_refused, all_built, built_under, name_built, name_found}
+use Rattle.ir_script.proofs.BuildLemmas.{memory_is, phrase_is, own_nameless, bind_nameless, label_kids_buildable, kids_refused, binder_refused, label_types, list_binds, list_layer, label_fits, label_layer, label_live, label_made, label_refused, label_answers, BuiltSoFar, none_so_far, buildable_at, next_taken, next_makes, one_more, all_refused, all_built, built_under, name_built, name_found}
 use Rattle.ir_script.proofs.ScopeLemmas.{terms_later}
 use Rattle.ir_script.proofs.MadeLemmas.{makes_memory}
 use Rattle.ir_script.proofs.build.+build.Goals as goal
-
--- the refusal is want of memory
-memory_is : {T : Type 0} {e : TermError} → ◌≡◌ {A = Result T TermError} (Err e) (Err Memory) → e ≡ Memory
-memory_is is = cc
 
 -- ---- a label
 
 pub build-build_all-requires : goal.build-build_all-requires
 build-build_all-requires t c =
-    let l = phrase_is (env_of (heap c.args.cx.now) (names_in c.args.scope.now)) (names_in c.args.scope.now) _ _ _ _ _ c.in-Labelled.is c.deref.ensures.value c.requires.buildable in
+    let l = phrase_is (env_of (heap c.args.cx.now) (names_in c.args.scope.now)) (names_in c.args.scope.now) _ _ _ _ _ _ c.in-Labelled.is c.deref.ensures.value c.requires.buildable in
     (search (rules, the_lemmas), (label_kids_buildable l, c.requires.terms))
 
 pub build-returns-in_err-parts : goal.build-returns-in_err-parts
 build-returns-in_err-parts t c =
-    let l = phrase_is (env_of (heap c.args.cx.now) (names_in c.args.scope.now)) (names_in c.args.scope.now) _ _ _ _ _ c.in-Labelled.is c.deref.ensures.value c.requires.buildable in
+    let l = phrase_is (env_of (heap c.args.cx.now) (names_in c.args.scope.now)) (names_in c.args.scope.now) _ _ _ _ _ _ c.in-Labelled.is c.deref.ensures.value c.requires.buildable in
     let from = err_from_is_err_and c.from_residual.result c.from_residual.ensures.1 in
     let kids = c.in_err-parts.ensures in
     subst (λ (r : Result Part TermError). Builds (env_of (heap c.args.cx.now) (names_in c.args.scope.now)) (names_in c.args.scope.now) (state c.args.cx.now) (state c.build_all.new.cx) (phrase_seen c.args.phrase.now) r) (sym (from.1 ∙ ap Err from.2))
@@ -43,7 +40,7 @@ build-returns-in_err-parts t c =
 
 pub build-returns-in_err-types-in-TypeList : goal.build-returns-in_err-types-in-TypeList
 build-returns-in_err-types-in-TypeList t c =
-    let l = phrase_is (env_of (heap c.args.cx.now) (names_in c.args.scope.now)) (names_in c.args.scope.now) _ _ _ _ _ c.in-Labelled.is c.deref.ensures.value c.requires.buildable in
+    let l = phrase_is (env_of (heap c.args.cx.now) (names_in c.args.scope.now)) (names_in c.args.scope.now) _ _ _ _ _ _ c.in-Labelled.is c.deref.ensures.value c.requires.buildable in
     let from = err_from_is_err_and c.from_residual-in_err-types-in-TypeList.result c.from_residual-in_err-types-in-TypeList.ensures.1 in
     let kids = c.in_ok-parts.ensures in
     subst (λ (r : Result Part TermError). Builds (env_of (heap c.args.cx.now) (names_in c.args.scope.now)) (names_in c.args.scope.now) (state c.args.cx.now) (state c.build_all.new.cx) (phrase_seen c.args.phrase.now) r) (sym (from.1 ∙ ap Err from.2))
@@ -51,7 +48,7 @@ build-returns-in_err-types-in-TypeList t c =
 
 pub build-returns-in_err-seen-in_default : goal.build-returns-in_err-seen-in_default
 build-returns-in_err-seen-in_default t c =
-    let l = phrase_is (env_of (heap c.args.cx.now) (names_in c.args.scope.now)) (names_in c.args.scope.now) _ _ _ _ _ c.in-Labelled.is c.deref.ensures.value c.requires.buildable in
+    let l = phrase_is (env_of (heap c.args.cx.now) (names_in c.args.scope.now)) (names_in c.args.scope.now) _ _ _ _ _ _ c.in-Labelled.is c.deref.ensures.value c.requires.buildable in
     let from = err_from_is_err_and c.from_residual-in_err-seen-in_default.result c.from_residual-in_err-seen-in_default.ensures.1 in
     let kids = c.in_ok-parts.ensures in
     subst (λ (r : Result Part TermError). Builds (env_of (heap c.args.cx.now) (names_in c.args.scope.now)) (names_in c.args.scope.now) (state c.args.cx.now) (state c.build_all.new.cx) (phrase_seen c.args.phrase.now) r) (sym (from.1 ∙ ap Err from.2))
@@ -59,41 +56,63 @@ build-returns-in_err-seen-in_default t c =
 
 pub build-types_of-requires : goal.build-types_of-requires
 build-types_of-requires t c =
-    let l = phrase_is (env_of (heap c.args.cx.now) (names_in c.args.scope.now)) (names_in c.args.scope.now) _ _ _ _ _ c.in-Labelled.is c.deref.ensures.value c.requires.buildable in
+    let l = phrase_is (env_of (heap c.args.cx.now) (names_in c.args.scope.now)) (names_in c.args.scope.now) _ _ _ _ _ _ c.in-Labelled.is c.deref.ensures.value c.requires.buildable in
     subst (Each (λ q. part_sort q ≡ OfType)) (sym c.deref-in-TypeList.ensures.value) (label_types l c.in-TypeList.is _ c.in_ok-parts.ensures.suit)
 
 pub build-returns-in_err-list-in-TypeList : goal.build-returns-in_err-list-in-TypeList
 build-returns-in_err-list-in-TypeList t c =
-    let l = phrase_is (env_of (heap c.args.cx.now) (names_in c.args.scope.now)) (names_in c.args.scope.now) _ _ _ _ _ c.in-Labelled.is c.deref.ensures.value c.requires.buildable in
+    let l = phrase_is (env_of (heap c.args.cx.now) (names_in c.args.scope.now)) (names_in c.args.scope.now) _ _ _ _ _ _ c.in-Labelled.is c.deref.ensures.value c.requires.buildable in
     let same = ap (map part.Ty) c.deref-in-TypeList-2.ensures.value ∙ c.in_ok-types-in-TypeList.ensures.types ∙ c.deref-in-TypeList.ensures.value in
     let store = c.build_all.new.cx.store in
     let from = err_from_is_err_and c.from_residual-in_err-list-in-TypeList.result c.from_residual-in_err-list-in-TypeList.ensures.1 in
     subst (λ (r : Result Part TermError). Builds (env_of (heap c.args.cx.now) (names_in c.args.scope.now)) (names_in c.args.scope.now) (state c.args.cx.now) (state c.new_from_slice.new.cx) (phrase_seen c.args.phrase.now) r) (sym (from.1 ∙ ap Err from.2))
-    (label_refused l _ _ _ _ c.in_ok-parts.ensures store.sound store.counted _ same _ (list_shape l c.in-TypeList.is c.deref-in-TypeList-2.result.now) _ c.in_err-list-in-TypeList.ensures.answers)
+    (label_refused l _ _ _ _ _ c.in_ok-parts.ensures _ (list_binds l c.in-TypeList.is _) store.counted _ same _ (list_layer l c.in-TypeList.is c.deref-in-TypeList-2.result.now) _ c.in_err-list-in-TypeList.ensures.answers)
 
 pub build-returns-in-TypeList : goal.build-returns-in-TypeList
 build-returns-in-TypeList t c =
-    let l = phrase_is (env_of (heap c.args.cx.now) (names_in c.args.scope.now)) (names_in c.args.scope.now) _ _ _ _ _ c.in-Labelled.is c.deref.ensures.value c.requires.buildable in
+    let l = phrase_is (env_of (heap c.args.cx.now) (names_in c.args.scope.now)) (names_in c.args.scope.now) _ _ _ _ _ _ c.in-Labelled.is c.deref.ensures.value c.requires.buildable in
     let same = ap (map part.Ty) c.deref-in-TypeList-2.ensures.value ∙ c.in_ok-types-in-TypeList.ensures.types ∙ c.deref-in-TypeList.ensures.value in
     let old = c.build_all.new.cx.store in
     let store = c.new_from_slice.new.cx.store in
     subst (λ (q : Part). Builds (env_of (heap c.args.cx.now) (names_in c.args.scope.now)) (names_in c.args.scope.now) (state c.args.cx.now) (state c.new_from_slice.new.cx) (phrase_seen c.args.phrase.now) (Ok q)) (sym c.as_part.ensures)
-    (label_made l _ _ _ _ c.in_ok-parts.ensures old.sound old.counted _ same _ (list_shape l c.in-TypeList.is c.deref-in-TypeList-2.result.now) _ (live_sort store.tables store.sound) (λ _. refl) c.in_ok-list-in-TypeList.ensures.answers)
+    (label_made l _ _ _ _ _ c.in_ok-parts.ensures _ (list_binds l c.in-TypeList.is _) old.counted _ same _ (list_layer l c.in-TypeList.is c.deref-in-TypeList-2.result.now) _ (live_sort store.tables store.sound) (λ _. refl) c.in_ok-list-in-TypeList.ensures.answers)
+
+pub build-fields_of-requires : goal.build-fields_of-requires
+build-fields_of-requires t c =
+    let l = phrase_is (env_of (heap c.args.cx.now) (names_in c.args.scope.now)) (names_in c.args.scope.now) _ _ _ _ _ _ c.in-Labelled.is c.deref.ensures.value c.requires.buildable in
+    ap (λ fs. list_all is_nameless_field (map field_seen fs)) c.deref-in_default.ensures.value ∙ own_nameless l
+
+pub build-binder_of-requires : goal.build-binder_of-requires
+build-binder_of-requires t c =
+    let l = phrase_is (env_of (heap c.args.cx.now) (names_in c.args.scope.now)) (names_in c.args.scope.now) _ _ _ _ _ _ c.in-Labelled.is c.deref.ensures.value c.requires.buildable in
+    bind_nameless l
+
+pub build-returns-in_err-binder-in_default : goal.build-returns-in_err-binder-in_default
+build-returns-in_err-binder-in_default t c =
+    let l = phrase_is (env_of (heap c.args.cx.now) (names_in c.args.scope.now)) (names_in c.args.scope.now) _ _ _ _ _ _ c.in-Labelled.is c.deref.ensures.value c.requires.buildable in
+    let from = err_from_is_err_and c.from_residual-in_err-binder-in_default.result c.from_residual-in_err-binder-in_default.ensures.1 in
+    subst (λ (r : Result Part TermError). Builds (env_of (heap c.args.cx.now) (names_in c.args.scope.now)) (names_in c.args.scope.now) (state c.args.cx.now) (state c.binder_of.new.cx) (phrase_seen c.args.phrase.now) r) (sym (from.1 ∙ ap Err from.2))
+    (binder_refused l _ _ _ _ _ c.in_ok-parts.ensures c.in_err-binder-in_default.ensures)
 
 pub build-kind_of-requires : goal.build-kind_of-requires
 build-kind_of-requires t c =
-    let l = phrase_is (env_of (heap c.args.cx.now) (names_in c.args.scope.now)) (names_in c.args.scope.now) _ _ _ _ _ c.in-Labelled.is c.deref.ensures.value c.requires.buildable in
+    let l = phrase_is (env_of (heap c.args.cx.now) (names_in c.args.scope.now)) (names_in c.args.scope.now) _ _ _ _ _ _ c.in-Labelled.is c.deref.ensures.value c.requires.buildable in
     let fields = ap (λ fs. each_of (field_in no_names) (map field_seen fs)) (sym c.deref-in_default.ensures.value) ∙ c.in_ok-seen-in_default.ensures.fields ∙ ap (λ fs. Some (map table.field_seen fs)) (sym c.deref-in_default-2.ensures.value) in
-    label_fits l c.in_default.not-TypeList _ fields _ (subst (AllSuit (names_in c.args.scope.now) (phrases_seen c.deref.result.now)) (sym c.deref-in_default-3.ensures.value) c.in_ok-parts.ensures.suit)
+    label_fits l c.in_default.not-TypeList _ fields _ (subst (AllSuit (names_in c.args.scope.now) (phrases_seen c.deref.result.now)) (sym c.deref-in_default-3.ensures.value) c.in_ok-parts.ensures.suit) _ c.in_ok-binder-in_default.ensures
+
+pub build-part_of-requires : goal.build-part_of-requires
+build-part_of-requires t c =
+    let l = phrase_is (env_of (heap c.args.cx.now) (names_in c.args.scope.now)) (names_in c.args.scope.now) _ _ _ _ _ _ c.in-Labelled.is c.deref.ensures.value c.requires.buildable in
+    label_live l _ _ _ _ c.in_ok-parts.ensures _ c.in_ok-binder-in_default.ensures _ c.deref-in_default-3.ensures.value _ _ c.kind_of.ensures
 
 pub build-returns : goal.build-returns
 build-returns t c =
-    let l = phrase_is (env_of (heap c.args.cx.now) (names_in c.args.scope.now)) (names_in c.args.scope.now) _ _ _ _ _ c.in-Labelled.is c.deref.ensures.value c.requires.buildable in
+    let l = phrase_is (env_of (heap c.args.cx.now) (names_in c.args.scope.now)) (names_in c.args.scope.now) _ _ _ _ _ _ c.in-Labelled.is c.deref.ensures.value c.requires.buildable in
     let fields = ap (λ fs. each_of (field_in no_names) (map field_seen fs)) (sym c.deref-in_default.ensures.value) ∙ c.in_ok-seen-in_default.ensures.fields ∙ ap (λ fs. Some (map table.field_seen fs)) (sym c.deref-in_default-2.ensures.value) in
-    let same = c.kind_of.ensures.kids ∙ c.deref-in_default-3.ensures.value in
-    let old = c.build_all.new.cx.store in
+    let same = c.deref-in_default-3.ensures.value in
+    let old = c.binder_of.new.cx.store in
     let store = c.part_of.new.self.store in
-    label_answers l _ _ _ _ c.in_ok-parts.ensures old.sound old.counted _ same _ (label_shape l _ _ c.kind_of.ensures.shape fields) c.in_default.not-TypeList _ (live_sort store.tables store.sound) c.part_of.ensures.answers
+    label_answers l _ _ _ _ _ c.in_ok-parts.ensures _ c.in_ok-binder-in_default.ensures old.counted _ same _ (label_layer l _ _ _ _ c.kind_of.ensures fields) c.in_default.not-TypeList _ (live_sort store.tables store.sound) c.part_of.ensures.answers
 
 -- ---- the kids
 

@@ -7,12 +7,12 @@ use Rattle.ir_script.specs.declared.expression.Expr.{the_lemmas}
 use Rattle.ir_script.specs.declared.expression.Expr as code
 use Rattle.ir_script.specs.declared.phrases.Field.{Field}
 use Rattle.ir_script.specs.declared.phrases.Phrase as seen
-use Rattle.ir_script.specs.Phrases.{are_built, field_seen, phrase_seen, phrases_seen}
+use Rattle.ir_script.specs.Phrases.{are_built, bind_seen, field_seen, phrase_seen, phrases_seen}
 use Rattle.ir_script.specs.Views.{exprs_in}
-use Rattle.ir_script.proofs.PhraseLemmas.{group_is, list_read, fieldless, fit-length, all-fitted, all-labelled, all-phrases, after-fixed, after-field, after-kid, after-phrase, written_built, by_word, begun_is, empty_group, group_first, same-prefix, built_at, most-rest}
+use Rattle.ir_script.proofs.PhraseLemmas.{group_is, list_read, fieldless, fit-unequal, all-fitted, all-labelled, all-phrases, after-fixed, after-field, no_field, after-kid, after-phrase, written_built, by_word, begun_is, empty_group, group_first, same-prefix, after-group, field_built, group_leads, most-rest}
 use Rattle.ir_script.proofs.expression.Expr.TheLaws.{the_size}
 use Rattle.ir_script.proofs.grammar.+grammar.Goals as goal
-use Rattle.ir_script.proofs.grammar.+grammar.Goals.{labelled-in-Fixed, labelled-in-AField+in-Some+in_ok-push-in-Some, labelled-in-AKid+in_ok-kid-in-AKid+in-Some-2+in_ok-push-in-Some-2}
+use Rattle.ir_script.proofs.grammar.+grammar.Goals.{labelled-in-Fixed, labelled-in-ForGroup+in_ok-kinds-in-ForGroup+in-Some, labelled-in-AField+in_ok-field-in-AField+in-Some-2+in_ok-push-in-Some-2, labelled-in-AKid+in_ok-kid-in-AKid+in-Some-3+in_ok-push-in-Some-3}
 
 abbrev field_items : Vec Field Global → List Field
 field_items v = v.items
@@ -23,7 +23,7 @@ kid_items v = v.items
 pub labelled-returns-then-items-parts-clause-read :
     goal.labelled-returns-then-items-parts-clause-read
 labelled-returns-then-items-parts-clause-read t c =
-    sym (ap (labelled c.args.word) (fit-length c.args.items.now (row c.args.word).parts c.requires (λ same. c.if-items-parts.true (same ∙ ap length (sym c.parts-parts.ensures)))))
+    sym (ap (labelled c.args.word) (fit-unequal c.args.items.now (row c.args.word).parts c.requires (λ same. c.if-items-parts.true (same ∙ ap length (sym c.parts-parts.ensures)))))
 
 pub list_in-returns-in-Some-clause-read : goal.list_in-returns-in-Some-clause-read
 list_in-returns-in-Some-clause-read t c =
@@ -58,22 +58,35 @@ pub labelled-loop-index-preserved : goal.labelled-loop-index-preserved
 labelled-loop-index-preserved t c =
     let built : are_built c.parts-parts.result.now ≡ true = ap are_built c.parts-parts.ensures ∙ c.requires in
     let in_items : c.loop-index.index < length c.args.items.now = omega arith in
-    elim c.match-part.branch [
-      | labelled-in-Fixed w ↦
-          same-prefix c.loop-index.fields.items c.match-part.fields.items c.loop-index.kids.items c.match-part.kids.items _ _ (ap field_items w.fields-is) (ap kid_items w.kids-is)
-          (after-fixed c.args.items.now c.parts-parts.result.now c.loop-index.index _ _ _ _ _ (record { in_items = in_items; in_parts = c.loop-index-test.true; spare_item = code.Word []; spare_part = _; item_is = refl; part_is = w.in-Fixed.is }) c.loop-index.invariant)
-      | labelled-in-AField+in-Some+in_ok-push-in-Some w ↦
-          same-prefix (c.loop-index.fields.items ++ w.in-Some.field ∷ []) c.match-part.fields.items c.loop-index.kids.items c.match-part.kids.items _ _ (ap field_items w.fields-is ∙ w.in_ok-push-in-Some.ensures.items) (ap kid_items w.kids-is)
-          (after-field c.args.items.now c.parts-parts.result.now c.loop-index.index w.index-items-index.result w.in-AField.form c.loop-index.fields.items w.in-Some.field c.loop-index.kids.items _ (record { in_items = in_items; in_parts = c.loop-index-test.true; spare_item = _; spare_part = _; item_is = sym w.index-items-index.is; part_is = w.in-AField.is }) (built_at _ _ _ _ built c.loop-index-test.true w.in-AField.is) (ap (option_map field_seen) (sym w.in-Some.is) ∙ w.field_in.ensures) c.loop-index.invariant)
-      | labelled-in-AKid+in_ok-kid-in-AKid+in-Some-2+in_ok-push-in-Some-2 w ↦
-          same-prefix c.loop-index.fields.items c.match-part.fields.items (c.loop-index.kids.items ++ w.in-Some-2.kid ∷ []) c.match-part.kids.items _ _ (ap field_items w.fields-is) (ap kid_items w.kids-is ∙ w.in_ok-push-in-Some-2.ensures.items)
-          (after-kid c.args.items.now c.parts-parts.result.now c.loop-index.index w.index-items-index-in-AKid.result w.in-AKid.form c.loop-index.fields.items c.loop-index.kids.items w.in-Some-2.kid _ (record { in_items = in_items; in_parts = c.loop-index-test.true; spare_item = _; spare_part = _; item_is = sym w.index-items-index-in-AKid.is; part_is = w.in-AKid.is }) (ap (option_map phrase_seen) (sym w.in-Some-2.is) ∙ w.in_ok-kid-in-AKid.ensures.read) c.loop-index.invariant)
-    ]
+    record {
+      read = elim c.match-part.branch [
+        | labelled-in-Fixed w ↦
+            same-prefix c.loop-index.fields.items c.match-part.fields.items c.loop-index.bind c.match-part.bind c.loop-index.kids.items c.match-part.kids.items _ _ (ap field_items w.fields-is) w.bind-is (ap kid_items w.kids-is)
+            (after-fixed c.args.items.now c.parts-parts.result.now c.loop-index.index _ _ _ _ _ _ (record { in_items = in_items; in_parts = c.loop-index-test.true; spare_item = code.Word []; spare_part = _; item_is = refl; part_is = w.in-Fixed.is }) c.loop-index.invariant.read)
+        | labelled-in-ForGroup+in_ok-kinds-in-ForGroup+in-Some w ↦
+            same-prefix c.loop-index.fields.items c.match-part.fields.items (Some w.in-Some.kinds) c.match-part.bind c.loop-index.kids.items c.match-part.kids.items _ _ (ap field_items w.fields-is) w.bind-is (ap kid_items w.kids-is)
+            (after-group c.args.items.now c.parts-parts.result.now c.loop-index.index _ _ _ w.in-Some.kinds _ _ (record { in_items = in_items; in_parts = c.loop-index-test.true; spare_item = _; spare_part = _; item_is = sym w.index-items-index.is; part_is = w.in-ForGroup.is }) (c.loop-index.invariant.free (group_leads _ _ _ built c.loop-index-test.true w.in-ForGroup.is)) (ap bind_seen (sym w.in-Some.is) ∙ w.in_ok-kinds-in-ForGroup.ensures.read) c.loop-index.invariant.read)
+        | labelled-in-AField+in_ok-field-in-AField+in-Some-2+in_ok-push-in-Some-2 w ↦
+            same-prefix (c.loop-index.fields.items ++ w.in-Some-2.field ∷ []) c.match-part.fields.items c.loop-index.bind c.match-part.bind c.loop-index.kids.items c.match-part.kids.items _ _ (ap field_items w.fields-is ∙ w.in_ok-push-in-Some-2.ensures.items) w.bind-is (ap kid_items w.kids-is)
+            (after-field c.args.items.now c.parts-parts.result.now c.loop-index.index w.index-items-index-in-AField.result w.in-AField.form c.loop-index.fields.items w.in-Some-2.field _ c.loop-index.kids.items _ (record { in_items = in_items; in_parts = c.loop-index-test.true; spare_item = _; spare_part = _; item_is = sym w.index-items-index-in-AField.is; part_is = w.in-AField.is }) (field_built _ _ _ _ built c.loop-index-test.true w.in-AField.is) (ap (option_map field_seen) (sym w.in-Some-2.is) ∙ w.in_ok-field-in-AField.ensures.read) c.loop-index.invariant.read)
+        | labelled-in-AKid+in_ok-kid-in-AKid+in-Some-3+in_ok-push-in-Some-3 w ↦
+            same-prefix c.loop-index.fields.items c.match-part.fields.items c.loop-index.bind c.match-part.bind (c.loop-index.kids.items ++ w.in-Some-3.kid ∷ []) c.match-part.kids.items _ _ (ap field_items w.fields-is) w.bind-is (ap kid_items w.kids-is ∙ w.in_ok-push-in-Some-3.ensures.items)
+            (after-kid c.args.items.now c.parts-parts.result.now c.loop-index.index w.index-items-index-in-AKid.result w.in-AKid.form c.loop-index.fields.items _ c.loop-index.kids.items w.in-Some-3.kid _ (record { in_items = in_items; in_parts = c.loop-index-test.true; spare_item = _; spare_part = _; item_is = sym w.index-items-index-in-AKid.is; part_is = w.in-AKid.is }) (ap (option_map phrase_seen) (sym w.in-Some-3.is) ∙ w.in_ok-kid-in-AKid.ensures.read) c.loop-index.invariant.read)
+      ];
+      free = λ none. absurd (omega (arith, none));
+    }
+
+pub labelled-returns-in-None-2-clause-read : goal.labelled-returns-in-None-2-clause-read
+labelled-returns-in-None-2-clause-read t c =
+    let built : are_built c.parts-parts.result.now ≡ true = ap are_built c.parts-parts.ensures ∙ c.requires in
+    let in_items : c.loop-index.index < length c.args.items.now = omega arith in
+    sym (ap (λ (parts : List Part). labelled c.args.word (fit (exprs_in c.args.items.now) parts)) (sym c.parts-parts.ensures)
+    ∙ ap (labelled c.args.word) (no_field c.args.items.now c.parts-parts.result.now c.loop-index.index c.index-items-index-in-AField.result c.in-AField.form _ _ _ _ (record { in_items = in_items; in_parts = c.loop-index-test.true; spare_item = _; spare_part = _; item_is = sym c.index-items-index-in-AField.is; part_is = c.in-AField.is }) (field_built _ _ _ _ built c.loop-index-test.true c.in-AField.is) (ap (option_map field_seen) (sym c.in-None-2.is) ∙ c.in_ok-field-in-AField.ensures.read) c.loop-index.invariant.read))
 
 pub labelled-returns-clause-read : goal.labelled-returns-clause-read
 labelled-returns-clause-read t c =
     let all_items : length c.args.items.now ≤ c.loop-index.index = omega arith in
-    all-labelled c.args.word c.loop-index.fields c.loop-index.kids _ (all-fitted _ _ c.loop-index.index _ _ _ all_items c.loop-index-test.false c.loop-index.invariant)
+    all-labelled c.args.word c.loop-index.fields c.loop-index.bind c.loop-index.kids _ (all-fitted _ _ c.loop-index.index _ _ _ _ all_items c.loop-index-test.false c.loop-index.invariant.read)
     ∙ ap (λ (parts : List Part). labelled c.args.word (fit (exprs_in c.args.items.now) parts)) c.parts-parts.ensures
 
 pub phrases_of_items-loop-item-preserved : goal.phrases_of_items-loop-item-preserved

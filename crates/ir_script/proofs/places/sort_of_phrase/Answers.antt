@@ -6,4 +6,4 @@ pub returns-in-Name : goal.returns-in-Name
 returns-in-Name c = λ h terms. c.sort_of.ensures ∙ name_sort h _ terms _ _ _ c.in-Name.is c.as_bytes.ensures
 
 pub returns-in-Labelled : goal.returns-in-Labelled
-returns-in-Labelled c = λ h terms. label_sort_seen h _ terms _ _ _ _ _ c.in-Labelled.is c.sort_of-in-Labelled.ensures
+returns-in-Labelled c = λ h terms. label_sort_seen h _ terms _ _ _ _ _ _ _ c.in-Labelled.is c.deref.ensures.value c.sort_of-in-Labelled.ensures

@@ -2,16 +2,17 @@ use Rattle.std.proofs.Common.{rules, arith, ◌≡◌, ◌∙◌, sym, refl, sub
 use Rattle.std.proofs.lemmas.Grind.{common_steps}
 use Rattle.std.proofs.Math.Seq.{take-length}
 use Rattle.ir_core.specs.declared.errors.TermError.TheVariants as error
+use Rattle.ir_core.specs.declared.handles.Part.{Part}
 use Rattle.ir_core.specs.declared.handles.Part.TheVariants as part
-use Rattle.ir_laws.specs.Heap.{Each, IsLive, largest, cached_height, tree_of}
+use Rattle.ir_laws.specs.Heap.{Each, IsLive, Layer, largest, cached_height, names_in, tree_of}
 use Rattle.ir_laws.specs.Spelling.{field_text as text_of_field}
 use Rattle.ir_laws.specs.Spelling.{spell as spelling}
 use Rattle.ir_table.specs.Interner.{heap}
-use Rattle.ir_table.specs.Kinds.{field_seen, fields_of, kids_of, node_kids, node_shape, ty_shape, ty_kids, const_shape, region_shape, tys_kids}
+use Rattle.ir_table.specs.Kinds.{field_seen, fields_of, kids_of, node_layer, ty_layer, const_layer, region_layer, tys_kids}
 use Rattle.ir_table.specs.Spelled.{Begins, IsNoList, name_text, places_text}
-use Rattle.ir_table.proofs.SpellingLemmas.{bare_list, begins_append, begins_more, err_after, ok_instead, ok_last, node_spelled, list_spelled, bare_node, whole_node, ty_no_list, region_no_list, const_no_list, fixed_step, group_step, field_step, kid_step, empty_list, list_begun, list_step, rest_kid}
+use Rattle.ir_table.proofs.SpellingLemmas.{bare_list, begins_append, begins_more, err_after, ok_instead, ok_last, node_spelled, node_lower, list_spelled, bare_node, whole_node, ty_no_list, region_no_list, const_no_list, fixed_step, no_group_step, group_step, bind_none, bind_some, field_step, kid_step, empty_list, list_begun, item_step, rest_kid}
 use Rattle.ir_table.proofs.spelling.+spelling.Goals as goal
-use Rattle.ir_table.proofs.spelling.+spelling.Goals.{spell_places-in-Fixed+in_ok-append_both-in-Fixed, spell_places-in-ForGroup, spell_places-in-AField+in-Some+in_ok-append_both-in-AField, spell_places-in-AKid+in-Some-get+in_ok-append-in-AKid+in_ok-spell_part-in-AKid}
+use Rattle.ir_table.proofs.spelling.+spelling.Goals.{spell_places-in-Fixed+in_ok-append_both-in-Fixed, spell_places-in-ForGroup+in-Some+in_ok-spell_variables-in-ForGroup, spell_places-in-ForGroup+in_default, spell_places-in-AField+in-Some-get+in_ok-spell_field-in-AField, spell_places-in-AKid+in-Some-get-2+in_ok-append-in-AKid+in_ok-spell_part-in-AKid}
 
 pub spell_node-returns-then-is_empty-clause-ok : goal.spell_node-returns-then-is_empty-clause-ok
 spell_node-returns-then-is_empty-clause-ok g t c =
@@ -31,39 +32,36 @@ spell_node-returns-clause-ok g t c =
 
 pub spell_part-spell_node-requires : goal.spell_part-spell_node-requires
 spell_part-spell_node-requires g t c κs within =
-    let high : cached_height (heap c.args.cx.now) c.args.part ≡ 1 + largest (cached_height (heap c.args.cx.now)) (node_kids c.ty_node.result) = rw (c.in-Ty.is, c.ty_node.ensures.kids) (c.kind.ensures.height ∙ omega arith) in
-    let lower : 3 * largest (cached_height (heap c.args.cx.now)) (node_kids c.ty_node.result) + 2 < 3 * cached_height (heap c.args.cx.now) c.args.part = omega arith in
-    let live = subst (Each (IsLive (heap c.args.cx.now))) (sym c.ty_node.ensures.kids) c.kind.ensures.kids_live in
-    let no_list = subst IsNoList (sym c.ty_node.ensures.shape) (ty_no_list c.kind.result) in
+    let lower = node_lower (heap c.args.cx.now) c.args.part (part.Ty c.in-Ty.ty) c.in-Ty.is (ty_layer c.kind.result) c.kind.ensures (node_layer c.ty_node.result) c.ty_node.ensures in
+    let live = subst (λ l. Each (IsLive (heap c.args.cx.now)) (names_in l)) (sym c.ty_node.ensures) c.kind.ensures.live in
+    let no_list = subst (λ (l : Layer Part). IsNoList l.label) (sym c.ty_node.ensures) (ty_no_list c.kind.result) in
     search (rules, lower, live, no_list)
 
 pub spell_part-spell_node-requires-in-Region : goal.spell_part-spell_node-requires-in-Region
 spell_part-spell_node-requires-in-Region g t c κs within =
-    let high : cached_height (heap c.args.cx.now) c.args.part ≡ 1 + largest (cached_height (heap c.args.cx.now)) (node_kids c.region_node.result) = rw (c.in-Region.is, c.region_node.ensures.kids) c.kind-in-Region.ensures.height in
-    let lower : 3 * largest (cached_height (heap c.args.cx.now)) (node_kids c.region_node.result) + 2 < 3 * cached_height (heap c.args.cx.now) c.args.part = omega arith in
-    let live = subst (Each (IsLive (heap c.args.cx.now))) (sym c.region_node.ensures.kids) c.kind-in-Region.ensures.kids_live in
-    let no_list = subst IsNoList (sym c.region_node.ensures.shape) (region_no_list c.kind-in-Region.result) in
+    let lower = node_lower (heap c.args.cx.now) c.args.part (part.Region c.in-Region.region) c.in-Region.is (region_layer c.kind-in-Region.result) c.kind-in-Region.ensures (node_layer c.region_node.result) c.region_node.ensures in
+    let live = subst (λ l. Each (IsLive (heap c.args.cx.now)) (names_in l)) (sym c.region_node.ensures) c.kind-in-Region.ensures.live in
+    let no_list = subst (λ (l : Layer Part). IsNoList l.label) (sym c.region_node.ensures) (region_no_list c.kind-in-Region.result) in
     search (rules, lower, live, no_list)
 
 pub spell_part-returns-in-Ty-clause-ok : goal.spell_part-returns-in-Ty-clause-ok
 spell_part-returns-in-Ty-clause-ok g t c = rw c.in-Ty.is (ok_instead c.args.out.now c.spell_node.new.out _ _ c.spell_node.result
-    (node_spelled (name_text (g.N.Names.named c.args.names.now)) (heap c.args.cx.now) (part.Ty c.in-Ty.ty) (ty_shape c.kind.result) (ty_kids c.kind.result) c.kind.ensures (node_shape c.ty_node.result) (node_kids c.ty_node.result) c.ty_node.ensures.shape c.ty_node.ensures.kids) c.spell_node.ensures.ok)
+    (node_spelled (name_text (g.N.Names.named c.args.names.now)) (heap c.args.cx.now) (part.Ty c.in-Ty.ty) (ty_layer c.kind.result) c.kind.ensures (node_layer c.ty_node.result) c.ty_node.ensures) c.spell_node.ensures.ok)
 
 pub spell_part-returns-in-Region-clause-ok : goal.spell_part-returns-in-Region-clause-ok
 spell_part-returns-in-Region-clause-ok g t c = rw c.in-Region.is (ok_instead c.args.out.now c.spell_node-in-Region.new.out _ _ c.spell_node-in-Region.result
-    (node_spelled (name_text (g.N.Names.named c.args.names.now)) (heap c.args.cx.now) (part.Region c.in-Region.region) (region_shape c.kind-in-Region.result) _ c.kind-in-Region.ensures (node_shape c.region_node.result) (node_kids c.region_node.result) c.region_node.ensures.shape c.region_node.ensures.kids) c.spell_node-in-Region.ensures.ok)
+    (node_spelled (name_text (g.N.Names.named c.args.names.now)) (heap c.args.cx.now) (part.Region c.in-Region.region) (region_layer c.kind-in-Region.result) c.kind-in-Region.ensures (node_layer c.region_node.result) c.region_node.ensures) c.spell_node-in-Region.ensures.ok)
 
 pub spell_part-spell_node-requires-in-Const : goal.spell_part-spell_node-requires-in-Const
 spell_part-spell_node-requires-in-Const g t c κs within =
-    let high : cached_height (heap c.args.cx.now) c.args.part ≡ 1 + largest (cached_height (heap c.args.cx.now)) (node_kids c.const_node.result) = rw (c.in-Const.is, c.const_node.ensures.kids) c.kind-in-Const.ensures.height in
-    let lower : 3 * largest (cached_height (heap c.args.cx.now)) (node_kids c.const_node.result) + 2 < 3 * cached_height (heap c.args.cx.now) c.args.part = omega arith in
-    let live = subst (Each (IsLive (heap c.args.cx.now))) (sym c.const_node.ensures.kids) c.kind-in-Const.ensures.kids_live in
-    let no_list = subst IsNoList (sym c.const_node.ensures.shape) (const_no_list c.kind-in-Const.result) in
+    let lower = node_lower (heap c.args.cx.now) c.args.part (part.Const c.in-Const.konst) c.in-Const.is (const_layer c.kind-in-Const.result) c.kind-in-Const.ensures (node_layer c.const_node.result) c.const_node.ensures in
+    let live = subst (λ l. Each (IsLive (heap c.args.cx.now)) (names_in l)) (sym c.const_node.ensures) c.kind-in-Const.ensures.live in
+    let no_list = subst (λ (l : Layer Part). IsNoList l.label) (sym c.const_node.ensures) (const_no_list c.kind-in-Const.result) in
     search (rules, lower, live, no_list)
 
 pub spell_part-returns-in-Const-clause-ok : goal.spell_part-returns-in-Const-clause-ok
 spell_part-returns-in-Const-clause-ok g t c = rw c.in-Const.is (ok_instead c.args.out.now c.spell_node-in-Const.new.out _ _ c.spell_node-in-Const.result
-    (node_spelled (name_text (g.N.Names.named c.args.names.now)) (heap c.args.cx.now) (part.Const c.in-Const.konst) (const_shape c.kind-in-Const.result) _ c.kind-in-Const.ensures (node_shape c.const_node.result) (node_kids c.const_node.result) c.const_node.ensures.shape c.const_node.ensures.kids) c.spell_node-in-Const.ensures.ok)
+    (node_spelled (name_text (g.N.Names.named c.args.names.now)) (heap c.args.cx.now) (part.Const c.in-Const.konst) (const_layer c.kind-in-Const.result) c.kind-in-Const.ensures (node_layer c.const_node.result) c.const_node.ensures) c.spell_node-in-Const.ensures.ok)
 
 pub spell_part-returns-in_default-clause-ok : goal.spell_part-returns-in_default-clause-ok
 spell_part-returns-in_default-clause-ok g t c =
@@ -94,29 +92,38 @@ spell_places-loop-place-preserved g t c =
     let i = c.loop-place.invariant in
     elim c.match-place.branch [
       | spell_places-in-Fixed+in_ok-append_both-in-Fixed w ↦ rw (w.out-is, w.fields-is, w.kids-is) (record {
-        whole = fixed_step c.args.places.now c.loop-place.place-index _ c.loop-place-test.true c.loop-place.out w.append_both.new.out _ _ _ w.in-Fixed.word w.text.result.now w.in-Fixed.is
+        whole = fixed_step c.args.places.now c.loop-place.place-index _ c.loop-place-test.true c.loop-place.out w.append_both.new.out _ _ _ _ w.in-Fixed.word w.text.result.now w.in-Fixed.is
             w.text.ensures w.in_ok-append_both-in-Fixed.ensures.ok i.whole;
         begins = begins_more c.args.out.now c.loop-place.out _ w.append_both.new.out i.begins w.in_ok-append_both-in-Fixed.ensures.ok;
         few_fields = omega arith;
         few_kids = omega arith;
       })
-      | spell_places-in-ForGroup w ↦ rw (w.out-is, w.fields-is, w.kids-is) (record {
-        whole = group_step c.args.places.now c.loop-place.place-index _ c.loop-place-test.true c.loop-place.out c.loop-place.out _ _ _ w.in-ForGroup.is refl i.whole;
+      | spell_places-in-ForGroup+in-Some+in_ok-spell_variables-in-ForGroup w ↦ rw (w.out-is, w.fields-is, w.kids-is) (record {
+        whole = group_step c.args.places.now c.loop-place.place-index _ c.loop-place-test.true c.loop-place.out w.spell_variables.new.out _ _ _ _ _ w.in-ForGroup.is
+            (bind_some (name_text (g.N.Names.named c.args.names.now)) (heap c.args.cx.now) c.args.node.now c.args.cx.now.store.sound w.in-Some.variables w.as_slice.result.now w.in-Some.is c.requires w.as_slice.ensures)
+            w.in_ok-spell_variables-in-ForGroup.ensures.ok i.whole;
+        begins = begins_more c.args.out.now c.loop-place.out _ w.spell_variables.new.out i.begins w.in_ok-spell_variables-in-ForGroup.ensures.ok;
+        few_fields = omega arith;
+        few_kids = omega arith;
+      })
+      | spell_places-in-ForGroup+in_default w ↦ rw (w.out-is, w.fields-is, w.kids-is) (record {
+        whole = no_group_step c.args.places.now c.loop-place.place-index _ c.loop-place-test.true c.loop-place.out c.loop-place.out _ _ _ _ w.in-ForGroup.is
+            (bind_none (name_text (g.N.Names.named c.args.names.now)) (heap c.args.cx.now) c.args.node.now w.in_default.not-Some) refl i.whole;
         begins = i.begins;
         few_fields = omega arith;
         few_kids = omega arith;
       })
-      | spell_places-in-AField+in-Some+in_ok-append_both-in-AField w ↦ rw (w.out-is, w.fields-is, w.kids-is) (record {
-        whole = field_step c.args.places.now c.loop-place.place-index _ c.loop-place-test.true c.loop-place.out w.append_both-in-AField.new.out _ (text_of_field (name_text (g.N.Names.named c.args.names.now))) field_seen
-            (fields_of c.args.node.now.fields) c.loop-place.fields w.in-Some.field _ w.in-AField.field-0 w.field_text.result.now w.in-AField.is w.in-Some.ensures
-            w.field_text.ensures w.in_ok-append_both-in-AField.ensures.ok i.whole;
-        begins = begins_more c.args.out.now c.loop-place.out _ w.append_both-in-AField.new.out i.begins w.in_ok-append_both-in-AField.ensures.ok;
+      | spell_places-in-AField+in-Some-get+in_ok-spell_field-in-AField w ↦ rw (w.out-is, w.fields-is, w.kids-is) (record {
+        whole = field_step c.args.places.now c.loop-place.place-index _ c.loop-place-test.true c.loop-place.out w.spell_field.new.out _ (text_of_field (name_text (g.N.Names.named c.args.names.now))) field_seen
+            (fields_of c.args.node.now.fields) c.loop-place.fields w.in-Some-get.field _ _ w.in-AField.field-0 w.in-AField.is w.in-Some-get.ensures
+            w.in_ok-spell_field-in-AField.ensures.ok i.whole;
+        begins = begins_more c.args.out.now c.loop-place.out _ w.spell_field.new.out i.begins w.in_ok-spell_field-in-AField.ensures.ok;
         few_fields = omega arith;
         few_kids = omega arith;
       })
-      | spell_places-in-AKid+in-Some-get+in_ok-append-in-AKid+in_ok-spell_part-in-AKid w ↦ rw (w.out-is, w.fields-is, w.kids-is) (record {
+      | spell_places-in-AKid+in-Some-get-2+in_ok-append-in-AKid+in_ok-spell_part-in-AKid w ↦ rw (w.out-is, w.fields-is, w.kids-is) (record {
         whole = kid_step c.args.places.now c.loop-place.place-index _ c.loop-place-test.true c.loop-place.out w.spell_part.new.out _ (λ p. spelling (name_text (g.N.Names.named c.args.names.now)) (tree_of (heap c.args.cx.now) p))
-            (kids_of c.args.node.now.kids) c.loop-place.kids w.in-Some-get.kid _ w.in-AKid.field-0 w.append.new.self w.in-AKid.is w.in-Some-get.ensures
+            (kids_of c.args.node.now.kids) c.loop-place.kids w.in-Some-get-2.kid _ _ w.in-AKid.field-0 w.append.new.self w.in-AKid.is w.in-Some-get-2.ensures
             w.in_ok-append-in-AKid.ensures.ok w.in_ok-spell_part-in-AKid.ensures.ok i.whole;
         begins = begins_more c.args.out.now w.append.new.self _ w.spell_part.new.out
             (begins_more c.args.out.now c.loop-place.out _ w.append.new.self i.begins w.in_ok-append-in-AKid.ensures.ok) w.in_ok-spell_part-in-AKid.ensures.ok;
@@ -156,7 +163,7 @@ spell_tys-returns-in_err-spell_part-2-clause-err g t c =
 
 pub spell_tys-loop-ty-preserved : goal.spell_tys-loop-ty-preserved
 spell_tys-loop-ty-preserved g t c = record {
-  whole = list_step (name_text (g.N.Names.named c.args.names.now)) (heap c.args.cx.now) c.loop-ty.out c.append-in-loop-ty.new.self c.spell_part-in-loop-ty.new.out _
+  whole = item_step (λ p. spelling (name_text (g.N.Names.named c.args.names.now)) (tree_of (heap c.args.cx.now) p)) part.Ty c.loop-ty.out c.append-in-loop-ty.new.self c.spell_part-in-loop-ty.new.out _
       (take (length c.args.tys.now - 1) (drop 1 c.args.tys.now)) c.loop-ty.ty-index (record { position = 0 }) c.loop-ty-test.true c.in_ok-append-2.ensures.ok c.in_ok-spell_part-2.ensures.ok c.loop-ty.invariant.whole;
   begins = begins_more c.args.out.now c.append-in-loop-ty.new.self _ c.spell_part-in-loop-ty.new.out
       (begins_more c.args.out.now c.loop-ty.out _ c.append-in-loop-ty.new.self c.loop-ty.invariant.begins c.in_ok-append-2.ensures.ok) c.in_ok-spell_part-2.ensures.ok;

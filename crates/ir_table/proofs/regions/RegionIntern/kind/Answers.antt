@@ -1,4 +1,4 @@
-use Rattle.ir_table.specs.Kinds.{heap_of, region_sketch}
+use Rattle.ir_table.specs.Kinds.{heap_of, region_layer, sketch_of}
 use Rattle.ir_table.proofs.PartLemmas.{live_within}
 use Rattle.ir_table.proofs.SortLemmas.{node_at}
 use Rattle.ir_table.proofs.Sorts.{region_sort}
@@ -6,7 +6,7 @@ use Rattle.ir_table.proofs.regions.RegionIntern.kind.Goals as goal
 
 pub get-requires : goal.get-requires
 unfolding heap_of
-get-requires c = live_within region_sketch c.args.cx.now.store.tables.regions c.args.self.position c.requires
+get-requires c = live_within (sketch_of region_layer) c.args.cx.now.store.tables.regions c.args.self.position c.requires
 
 pub returns : goal.returns
 returns c = node_at (region_sort c.args.cx.now.store.tables c.args.cx.now.store.limits) c.args.cx.now.store.tables.regions c.args.cx.now.store.sound c.args.self.position c.get.result.0 c.get.result.1 c.get.ensures

@@ -1,5 +1,4 @@
-use Rattle.std.proofs.Common.{[]}
-use Rattle.ir_table.specs.Kinds.{heap_of, sketch_of, ty_shape, ty_kids, const_shape, region_shape, tys_shape, tys_kids, variables_shape, variances_shape}
+use Rattle.ir_table.specs.Kinds.{heap_of, sketch_of, ty_layer, const_layer, region_layer, tys_layer, variables_layer, variances_layer}
 use Rattle.ir_table.specs.declared.store.EmptyList.TheVariants as empty
 use Rattle.ir_table.proofs.PartLemmas.{live_within, empty_within}
 use Rattle.ir_table.proofs.LoopLemmas.{pair_cached, value_of_pair, empty_cached}
@@ -7,51 +6,51 @@ use Rattle.ir_table.proofs.store.Store.cached.Goals as goal
 
 pub get-requires : goal.get-requires
 unfolding heap_of
-get-requires c = live_within (sketch_of ty_shape ty_kids) c.args.self.now.tables.tys c.in-Ty.ty.position (rw c.in-Ty.is at c.requires)
+get-requires c = live_within (sketch_of ty_layer) c.args.self.now.tables.tys c.in-Ty.ty.position (rw c.in-Ty.is at c.requires)
 
 pub returns-in-Ty : goal.returns-in-Ty
 unfolding heap_of
-returns-in-Ty c = rw c.in-Ty.is (pair_cached ty_shape ty_kids _ _ (value_of_pair _ _ c.get.ensures))
+returns-in-Ty c = rw c.in-Ty.is (pair_cached ty_layer _ _ (value_of_pair _ _ c.get.ensures))
 
 pub get-requires-in-Const : goal.get-requires-in-Const
 unfolding heap_of
-get-requires-in-Const c = live_within (sketch_of const_shape (λ _. [])) c.args.self.now.tables.consts c.in-Const.konst.position (rw c.in-Const.is at c.requires)
+get-requires-in-Const c = live_within (sketch_of const_layer) c.args.self.now.tables.consts c.in-Const.konst.position (rw c.in-Const.is at c.requires)
 
 pub returns-in-Const : goal.returns-in-Const
 unfolding heap_of
-returns-in-Const c = rw c.in-Const.is (pair_cached const_shape (λ _. []) _ _ (value_of_pair _ _ c.get-in-Const.ensures))
+returns-in-Const c = rw c.in-Const.is (pair_cached const_layer _ _ (value_of_pair _ _ c.get-in-Const.ensures))
 
 pub get-requires-in-Region : goal.get-requires-in-Region
 unfolding heap_of
-get-requires-in-Region c = live_within (sketch_of region_shape (λ _. [])) c.args.self.now.tables.regions c.in-Region.region.position (rw c.in-Region.is at c.requires)
+get-requires-in-Region c = live_within (sketch_of region_layer) c.args.self.now.tables.regions c.in-Region.region.position (rw c.in-Region.is at c.requires)
 
 pub returns-in-Region : goal.returns-in-Region
 unfolding heap_of
-returns-in-Region c = rw c.in-Region.is (pair_cached region_shape (λ _. []) _ _ (value_of_pair _ _ c.get-in-Region.ensures))
+returns-in-Region c = rw c.in-Region.is (pair_cached region_layer _ _ (value_of_pair _ _ c.get-in-Region.ensures))
 
 pub value-requires : goal.value-requires
 unfolding heap_of
-value-requires c = live_within (sketch_of tys_shape tys_kids) c.args.self.now.tables.type_lists c.in-Tys.list.position (rw c.in-Tys.is at c.requires)
+value-requires c = live_within (sketch_of tys_layer) c.args.self.now.tables.type_lists c.in-Tys.list.position (rw c.in-Tys.is at c.requires)
 
 pub returns-in-Tys : goal.returns-in-Tys
 unfolding heap_of
-returns-in-Tys c = rw c.in-Tys.is (pair_cached tys_shape tys_kids _ _ c.value.ensures)
+returns-in-Tys c = rw c.in-Tys.is (pair_cached tys_layer _ _ c.value.ensures)
 
 pub value-requires-in-BoundVarKinds : goal.value-requires-in-BoundVarKinds
 unfolding heap_of
-value-requires-in-BoundVarKinds c = live_within (sketch_of variables_shape (λ _. [])) c.args.self.now.tables.variable_lists c.in-BoundVarKinds.list.position (rw c.in-BoundVarKinds.is at c.requires)
+value-requires-in-BoundVarKinds c = live_within (sketch_of variables_layer) c.args.self.now.tables.variable_lists c.in-BoundVarKinds.list.position (rw c.in-BoundVarKinds.is at c.requires)
 
 pub returns-in-BoundVarKinds : goal.returns-in-BoundVarKinds
 unfolding heap_of
-returns-in-BoundVarKinds c = rw c.in-BoundVarKinds.is (pair_cached variables_shape (λ _. []) _ _ c.value-in-BoundVarKinds.ensures)
+returns-in-BoundVarKinds c = rw c.in-BoundVarKinds.is (pair_cached variables_layer _ _ c.value-in-BoundVarKinds.ensures)
 
 pub value-requires-in-VariancesOf : goal.value-requires-in-VariancesOf
 unfolding heap_of
-value-requires-in-VariancesOf c = live_within (sketch_of variances_shape (λ _. [])) c.args.self.now.tables.variance_lists c.in-VariancesOf.list.position (rw c.in-VariancesOf.is at c.requires)
+value-requires-in-VariancesOf c = live_within (sketch_of variances_layer) c.args.self.now.tables.variance_lists c.in-VariancesOf.list.position (rw c.in-VariancesOf.is at c.requires)
 
 pub returns-in-VariancesOf : goal.returns-in-VariancesOf
 unfolding heap_of
-returns-in-VariancesOf c = rw c.in-VariancesOf.is (pair_cached variances_shape (λ _. []) _ _ c.value-in-VariancesOf.ensures)
+returns-in-VariancesOf c = rw c.in-VariancesOf.is (pair_cached variances_layer _ _ c.value-in-VariancesOf.ensures)
 
 pub cached_empty-requires : goal.cached_empty-requires
 unfolding heap_of

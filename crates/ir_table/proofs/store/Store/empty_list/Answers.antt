@@ -1,5 +1,7 @@
 use Rattle.std.proofs.Common.{◌∙◌, ap, Err}
 use Rattle.std.proofs.lemmas.Result.{err_from_is_err_and}
+use Rattle.ir_table.specs.Kinds.{heap_of}
+use Rattle.ir_table.proofs.NodeLemmas.{empty_above}
 use Rattle.ir_table.proofs.SortLemmas.{new_held, new_forbidden, new_memory, new_made, after_push}
 use Rattle.ir_table.proofs.Sorts.{kept, empty_sort}
 use Rattle.ir_table.proofs.store.Store.empty_list.Goals as goal
@@ -14,13 +16,13 @@ pub returns-in_err-cached-clause-answers : goal.returns-in_err-cached-clause-ans
 returns-in_err-cached-clause-answers c =
     let from = err_from_is_err_and c.from_residual.result c.from_residual.ensures.1 in
     new_forbidden (empty_sort c.args.self.now.tables c.args.self.now.limits) c.args.self.now.tables.empty_lists (kept c.args.self.now) c.args.sort tt c.in_default.ensures.absent
-    _ _ c.leaf.ensures.height c.leaf.ensures.size
+    c.leaf.result (empty_above (heap_of c.args.self.now.tables) c.args.sort c.leaf.result c.leaf.ensures)
     c.in_err-cached.field-0.0 c.in_err-cached.ensures.err c.from_residual.result (from.1 ∙ ap Err from.2)
 
 pub invariant_of-self-2 : goal.invariant_of-self-2
 invariant_of-self-2 c =
     let w = after_push (empty_sort c.args.self.now.tables c.args.self.now.limits) c.args.self.now.tables.empty_lists (kept c.args.self.now) c.args.sort tt c.in_default.ensures.absent
-    _ _ c.leaf.ensures.height c.leaf.ensures.size
+    c.leaf.result (empty_above (heap_of c.args.self.now.tables) c.args.sort c.leaf.result c.leaf.ensures)
     c.in_ok-cached.ensures.room c.in_ok-cached.ensures.low c.in_ok-cached.cached c.in_ok-cached.ensures.ok c.push.result c.push.new.self c.push.ensures.ok c.push.ensures.err in
     record { sound = w.sound; counted = w.counted; few = w.few; low = w.low }
 
@@ -33,5 +35,5 @@ returns-in_err-push-clause-answers c =
 pub returns-clause-answers : goal.returns-clause-answers
 returns-clause-answers c =
     new_made (empty_sort c.args.self.now.tables c.args.self.now.limits) c.args.self.now.tables.empty_lists (kept c.args.self.now) c.args.sort tt c.in_default.ensures.absent
-    _ _ c.leaf.ensures.height c.leaf.ensures.size
+    c.leaf.result (empty_above (heap_of c.args.self.now.tables) c.args.sort c.leaf.result c.leaf.ensures)
     c.in_ok-cached.ensures.room c.in_ok-cached.ensures.low c.in_ok-cached.cached c.in_ok-cached.ensures.ok c.push.new.self c.len-index.result c.in_ok-push.ensures.ok c.len-index.ensures

@@ -1,8 +1,7 @@
-use Rattle.std.proofs.Common.{◌≡◌, ℕ, zero, suc, ◌+◌, ◌<◌, ◌≤◌, List, [], ◌∷◌, ◌++◌, length, length-set, map, get_or, set, take, Result, Ok, Err, true, ⊎_elim, refl, sym, ap, subst, ◌∙◌, arith}
+use Rattle.std.proofs.Common.{◌≡◌, ℕ, zero, suc, ◌+◌, ◌<◌, List, [], ◌∷◌, ◌++◌, length, length-set, map, get_or, set, take, Result, Ok, Err, true, ⊎_elim, refl, sym, ap, subst, ◌∙◌, arith}
 use Rattle.std.proofs.lemmas.List.{map-append, length-take-le, take_all, take_more_set}
 use Rattle.std.specs.Result.{IsErrAnd}
 use Rattle.ir_core.specs.declared.errors.TermError.{TermError}
-use Rattle.ir_core.specs.declared.handles.Part.{Part}
 use Rattle.ir_core.specs.declared.handles.Part.TheVariants as part
 use Rattle.ir_core.specs.declared.handles.Ty.{Ty}
 use Rattle.ir_core.specs.declared.kinds.TyKind.{TyKind}
@@ -10,17 +9,16 @@ use Rattle.ir_core.specs.declared.kinds.TyKind.TheVariants as kind
 use Rattle.ir_core.specs.declared.kinds.IntTy.TheVariants as int
 use Rattle.ir_core.specs.declared.kinds.UintTy.TheVariants as uint
 use Rattle.ir_core.specs.declared.kinds.FloatTy.TheVariants as float
-use Rattle.ir_laws.specs.Heap.{plant, Each}
+use Rattle.ir_laws.specs.Heap.{Each}
 use Rattle.ir_laws.specs.Parts.{is_part}
 use Rattle.ir_laws.specs.Tree.{End, Term}
-use Rattle.ir_laws.proofs.HeapLemmas.{Each-largest}
 use Rattle.ir_laws.proofs.PartSets.{no_part, part_is, part_further, part_of_cons}
 use Rattle.ir_table.specs.declared.store.Store.{Store}
 use Rattle.ir_table.specs.Interner.{stored}
-use Rattle.ir_table.specs.Kinds.{ty_shape, ty_kids}
+use Rattle.ir_table.specs.Kinds.{ty_layer}
 use Rattle.ir_table.specs.Start.{Named, leaf_types, name_each}
 use Rattle.ir_table.specs.State.{State, NewAnswers, Makes}
-use Rattle.ir_table.proofs.StartLemmas.{Made, also, done, refused_within, trees_of}
+use Rattle.ir_table.proofs.StartLemmas.{Made, also, done, layer_over, over, refused_within, trees_of}
 use Rattle.ir_table.proofs.store.Store.start_leaf_types.Goals as goal
 
 -- the kinds of one word
@@ -31,16 +29,19 @@ kinds = kind.Int int.I8 ∷ kind.Int int.I16 ∷ kind.Int int.I32 ∷ kind.Int i
     ∷ kind.Bool ∷ kind.Char ∷ kind.Str ∷ kind.Never ∷ kind.Error (record {}) ∷ []
 
 abbrev tree : TyKind → Term
-tree k = plant (ty_shape k) End
+tree k = over (ty_layer k).label End
 
-no_kids : (ks : List TyKind) (i : ℕ) (d : TyKind) → Each (λ k. length (ty_kids k) ≤ 0) ks → i < length ks → ty_kids (get_or ks i d) ≡ []
-no_kids [] i d all within = absurd (omega arith)
-no_kids (k ∷ ks) zero d all within = by (ty_kids k) all.0
-  where
-    by : (ps : List Part) → length ps ≤ 0 → ps ≡ []
-    by [] none = refl
-    by (p ∷ ps) none = absurd (omega arith)
-no_kids (k ∷ ks) (suc i) d all within = no_kids ks i d all.1 (omega arith)
+-- they have a word alone
+abbrev IsAlone : TyKind → Type 0
+IsAlone k = ty_layer k ≡ layer_over (ty_layer k).label []
+
+are_alone : Each IsAlone kinds
+are_alone = (refl, (refl, (refl, (refl, (refl, (refl, (refl, (refl, (refl, (refl, (refl, (refl, (refl, (refl, (refl, (refl, (refl, (refl, (refl, (refl, (refl, tt)))))))))))))))))))))
+
+alone_at : (ks : List TyKind) (i : ℕ) (d : TyKind) → Each IsAlone ks → i < length ks → IsAlone (get_or ks i d)
+alone_at [] i d all within = absurd (omega arith)
+alone_at (k ∷ ks) zero d all within = all.0
+alone_at (k ∷ ks) (suc i) d all within = alone_at ks i d all.1 (omega arith)
 
 -- one more handle has the next tree
 name_next : (hs : List Ty) (ks : List TyKind) (i : ℕ) (h : Ty) (d : TyKind) → length hs ≡ i → i < length ks → name_each hs (map tree ks) ++ (part.Ty h, tree (get_or ks i d)) ∷ [] ≡ name_each (hs ++ h ∷ []) (map tree ks)
@@ -63,19 +64,19 @@ named_among (h ∷ hs) [] t e = absurd (no_part t e)
 named_among (h ∷ hs) (u ∷ ts) t e = ⊎_elim (part_is u ts t) (λ further. part_further u ts t (named_among hs ts t further)) (part_of_cons u (trees_of (name_each hs ts)) t e)
 
 module _ (types : List Ty) (i : ℕ) (d : TyKind) (all : length types ≡ 21) (within : i < 21) where
-  alone : ty_kids (get_or kinds i d) ≡ []
-  alone = no_kids kinds i d (Each-largest (λ k. length (ty_kids k)) 0 kinds (omega arith)) within
+  alone : IsAlone (get_or kinds i d)
+  alone = alone_at kinds i d are_alone within
 
   next : (x : Ty) → name_each (take i types) leaf_types ++ (part.Ty x, tree (get_or kinds i d)) ∷ [] ≡ name_each (take i types ++ x ∷ []) leaf_types
   next x = name_next (take i types) kinds i x d (length-take-le i types (omega arith)) within
 
-  leaf_made : {old : State} {mid : Store} (new : Store) (x : Ty) → Made old mid (name_each (take i types) leaf_types) → NewAnswers part.Ty (stored mid) (stored new) (ty_shape (get_or kinds i d)) (ty_kids (get_or kinds i d)) (Ok x) → Made old new (name_each (take (i + 1) (set types i x)) leaf_types)
+  leaf_made : {old : State} {mid : Store} (new : Store) (x : Ty) → Made old mid (name_each (take i types) leaf_types) → NewAnswers part.Ty (stored mid) (stored new) (ty_layer (get_or kinds i d)) (Ok x) → Made old new (name_each (take (i + 1) (set types i x)) leaf_types)
   leaf_made {old = old} {mid = mid} new x so_far a = subst (Made old new) (next x ∙ ap (λ hs. name_each hs leaf_types) (sym (take_more_set types i x (omega arith))))
-      (also new so_far (subst (λ ps. NewAnswers part.Ty (stored mid) (stored new) (ty_shape (get_or kinds i d)) ps (Ok x)) alone a))
+      (also new so_far (subst (λ l. NewAnswers part.Ty (stored mid) (stored new) l (Ok x)) alone a))
 
-  leaf_refused : {old : State} {mid : Store} {e : TermError} {V : Type 0} (new : Store) (r : Result V TermError) → Made old mid (name_each (take i types) leaf_types) → NewAnswers part.Ty (stored mid) (stored new) (ty_shape (get_or kinds i d)) (ty_kids (get_or kinds i d)) (Err e) → IsErrAnd r (λ x. x ≡ e)
+  leaf_refused : {old : State} {mid : Store} {e : TermError} {V : Type 0} (new : Store) (r : Result V TermError) → Made old mid (name_each (take i types) leaf_types) → NewAnswers part.Ty (stored mid) (stored new) (ty_layer (get_or kinds i d)) (Err e) → IsErrAnd r (λ x. x ≡ e)
       → Makes old (stored new) leaf_types r
-  leaf_refused {mid = mid} {e = e} new r so_far a is = refused_within so_far [] tt r (subst (λ ps. NewAnswers part.Ty (stored mid) (stored new) (ty_shape (get_or kinds i d)) ps (Err e)) alone a) is
+  leaf_refused {mid = mid} {e = e} new r so_far a is = refused_within so_far [] tt r (subst (λ l. NewAnswers part.Ty (stored mid) (stored new) l (Err e)) alone a) is
       (λ t m. named_among (take i types ++ record { position = 0 } ∷ []) leaf_types t
       (ap (λ ts. is_part ts t) (ap trees_of (sym (next (record { position = 0 }))) ∙ map-append (λ (n : Named). n.1) (name_each (take i types) leaf_types) _) ∙ m))
 

@@ -19,13 +19,13 @@ pub returns-in_err-cached-clause-answers : goal.returns-in_err-cached-clause-ans
 returns-in_err-cached-clause-answers c =
     let from = err_from_is_err_and c.from_residual-in_err-cached.result c.from_residual-in_err-cached.ensures.1 in
     new_forbidden (tys_sort c.args.self.now.tables c.args.self.now.limits) c.args.self.now.tables.type_lists (kept c.args.self.now) c.args.items.now c.requires (subst (λ (k : List Ty). HasNoKey c.args.self.now.tables.type_lists k) c.in_ok-key.ensures.ok c.in_default.ensures.absent)
-    _ _ c.above_tys.ensures.height c.above_tys.ensures.size
+    c.above_tys.result c.above_tys.ensures
     c.in_err-cached.field-0.0 c.in_err-cached.ensures.err c.from_residual-in_err-cached.result (from.1 ∙ ap Err from.2)
 
 pub invariant_of-self-2 : goal.invariant_of-self-2
 invariant_of-self-2 c =
     let w = after_push (tys_sort c.args.self.now.tables c.args.self.now.limits) c.args.self.now.tables.type_lists (kept c.args.self.now) c.args.items.now c.requires (subst (λ (k : List Ty). HasNoKey c.args.self.now.tables.type_lists k) c.in_ok-key.ensures.ok c.in_default.ensures.absent)
-    _ _ c.above_tys.ensures.height c.above_tys.ensures.size
+    c.above_tys.result c.above_tys.ensures
     c.in_ok-cached.ensures.room c.in_ok-cached.ensures.low c.in_ok-cached.cached c.in_ok-cached.ensures.ok c.push.result c.push.new.self (subst (λ (k : List Ty). OnOk c.push.result (c.push.new.self ≡ c.args.self.now.tables.type_lists ++ (k, c.in_ok-cached.cached) ∷ [])) c.in_ok-key.ensures.ok c.push.ensures.ok) c.push.ensures.err in
     record { sound = w.sound; counted = w.counted; few = w.few; low = w.low }
 
@@ -38,7 +38,7 @@ returns-in_err-push-clause-answers c =
 pub returns-clause-answers : goal.returns-clause-answers
 returns-clause-answers c =
     new_made (tys_sort c.args.self.now.tables c.args.self.now.limits) c.args.self.now.tables.type_lists (kept c.args.self.now) c.args.items.now c.requires (subst (λ (k : List Ty). HasNoKey c.args.self.now.tables.type_lists k) c.in_ok-key.ensures.ok c.in_default.ensures.absent)
-    _ _ c.above_tys.ensures.height c.above_tys.ensures.size
+    c.above_tys.result c.above_tys.ensures
     c.in_ok-cached.ensures.room c.in_ok-cached.ensures.low c.in_ok-cached.cached c.in_ok-cached.ensures.ok c.push.new.self c.len-index.result (subst (λ (k : List Ty). c.push.new.self ≡ c.args.self.now.tables.type_lists ++ (k, c.in_ok-cached.cached) ∷ []) c.in_ok-key.ensures.ok c.in_ok-push.ensures.ok) c.len-index.ensures
 
 pub returns-in_err-key-clause-answers : goal.returns-in_err-key-clause-answers

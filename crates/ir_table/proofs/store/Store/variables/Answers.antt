@@ -1,9 +1,9 @@
 use Rattle.std.proofs.Common.{◌≡◌, ◌∙◌, ◌++◌, ◌∷◌, [], ap, subst, sym, List, Err, true≢false, arith}
 use Rattle.std.proofs.lemmas.List.{length-map}
 use Rattle.std.specs.Result.{OnOk}
-use Rattle.ir_core.specs.declared.kinds.BoundVarKind.{BoundVarKind}
+use Rattle.ir_core.specs.declared.variables.BoundVarKind.{BoundVarKind}
 use Rattle.ir_table.specs.Kinds.{heap_of, variable_field}
-use Rattle.ir_table.proofs.NodeLemmas.{variables_size}
+use Rattle.ir_table.proofs.NodeLemmas.{variables_above}
 use Rattle.ir_table.specs.Table.{StandsAt, HasNoKey}
 use Rattle.std.proofs.lemmas.Result.{err_from_is_err_and}
 use Rattle.ir_table.proofs.SortLemmas.{new_held, new_no_key, new_forbidden, new_memory, new_made, after_push}
@@ -20,13 +20,13 @@ pub returns-in_err-cached-clause-answers : goal.returns-in_err-cached-clause-ans
 returns-in_err-cached-clause-answers c =
     let from = err_from_is_err_and c.from_residual-in_err-cached.result c.from_residual-in_err-cached.ensures.1 in
     new_forbidden (variables_sort c.args.self.now.tables c.args.self.now.limits) c.args.self.now.tables.variable_lists (kept c.args.self.now) c.args.items.now tt (subst (λ (k : List BoundVarKind). HasNoKey c.args.self.now.tables.variable_lists k) c.in_ok-key.ensures.ok c.in_default.ensures.absent)
-    _ _ c.leaf.ensures.height (c.leaf.ensures.size ∙ variables_size (heap_of c.args.self.now.tables) c.args.items.now)
+    c.leaf.result (variables_above (heap_of c.args.self.now.tables) c.args.items.now c.leaf.result c.leaf.ensures)
     c.in_err-cached.field-0.0 c.in_err-cached.ensures.err c.from_residual-in_err-cached.result (from.1 ∙ ap Err from.2)
 
 pub invariant_of-self-2 : goal.invariant_of-self-2
 invariant_of-self-2 c =
     let w = after_push (variables_sort c.args.self.now.tables c.args.self.now.limits) c.args.self.now.tables.variable_lists (kept c.args.self.now) c.args.items.now tt (subst (λ (k : List BoundVarKind). HasNoKey c.args.self.now.tables.variable_lists k) c.in_ok-key.ensures.ok c.in_default.ensures.absent)
-    _ _ c.leaf.ensures.height (c.leaf.ensures.size ∙ variables_size (heap_of c.args.self.now.tables) c.args.items.now)
+    c.leaf.result (variables_above (heap_of c.args.self.now.tables) c.args.items.now c.leaf.result c.leaf.ensures)
     c.in_ok-cached.ensures.room c.in_ok-cached.ensures.low c.in_ok-cached.cached c.in_ok-cached.ensures.ok c.push.result c.push.new.self (subst (λ (k : List BoundVarKind). OnOk c.push.result (c.push.new.self ≡ c.args.self.now.tables.variable_lists ++ (k, c.in_ok-cached.cached) ∷ [])) c.in_ok-key.ensures.ok c.push.ensures.ok) c.push.ensures.err in
     record { sound = w.sound; counted = w.counted; few = w.few; low = w.low }
 
@@ -39,7 +39,7 @@ returns-in_err-push-clause-answers c =
 pub returns-clause-answers : goal.returns-clause-answers
 returns-clause-answers c =
     new_made (variables_sort c.args.self.now.tables c.args.self.now.limits) c.args.self.now.tables.variable_lists (kept c.args.self.now) c.args.items.now tt (subst (λ (k : List BoundVarKind). HasNoKey c.args.self.now.tables.variable_lists k) c.in_ok-key.ensures.ok c.in_default.ensures.absent)
-    _ _ c.leaf.ensures.height (c.leaf.ensures.size ∙ variables_size (heap_of c.args.self.now.tables) c.args.items.now)
+    c.leaf.result (variables_above (heap_of c.args.self.now.tables) c.args.items.now c.leaf.result c.leaf.ensures)
     c.in_ok-cached.ensures.room c.in_ok-cached.ensures.low c.in_ok-cached.cached c.in_ok-cached.ensures.ok c.push.new.self c.len-index.result (subst (λ (k : List BoundVarKind). c.push.new.self ≡ c.args.self.now.tables.variable_lists ++ (k, c.in_ok-cached.cached) ∷ []) c.in_ok-key.ensures.ok c.in_ok-push.ensures.ok) c.len-index.ensures
 
 pub returns-in_err-key-clause-answers : goal.returns-in_err-key-clause-answers

@@ -1,0 +1,167 @@
+//! Variable kinds, and the groups of those that a label binds.
+ghost use Rattle.ir_laws.specs.Expression.{Group};
+ghost use Rattle.ir_laws.specs.Numeral.{name_of};
+ghost use Rattle.ir_laws.specs.Phrase.{after, and_then, bind_of, each_of, kind_of, region_kind_of, words_of};
+ghost use Rattle.ir_script.specs.Phrases.{kind_seen};
+ghost use Rattle.ir_script.specs.Views.{expr_of, exprs_in};
+ghost use Rattle.std.specs.Prelude.{◌≡◌, map as mapped, option_map, Err, IfOk, OnErr};
+
+use crate::expression::Expr;
+use crate::phrases::VariableKind;
+use crate::words::name_of;
+use ir_core::{R, TermError, Text};
+use std::alloc::Global;
+
+/// The name behind these first bytes.
+fn name_after(alloc: Global, first: &[u8], text: &[u8]) -> R<Option<Text>>
+    ensures read { IfOk result (λ o. o ≡ and_then (after first.now text.now) name_of) }
+    ensures err { OnErr result (result ≡ Err TermError.Memory) }
+{
+    match text.strip_prefix(first) {
+        Some(rest) => name_of(alloc, rest),
+        None => Ok(None),
+    }
+}
+
+/// A region's kind: `r`, `r:NAME` or `env`.
+pub(crate) fn region_kind_of(alloc: Global, text: &[u8]) -> R<Option<VariableKind>>
+    ensures read { IfOk result (λ o. option_map kind_seen o ≡ region_kind_of text.now) }
+    ensures err { OnErr result (result ≡ Err TermError.Memory) }
+{
+    match text {
+        b"r" => Ok(Some(VariableKind::Region(None))),
+        b"env" => Ok(Some(VariableKind::Environment)),
+        _ => match name_after(alloc, b"r:", text)? {
+            Some(name) => Ok(Some(VariableKind::Region(Some(name)))),
+            None => Ok(None),
+        },
+    }
+}
+
+/// The kind that the text writes: a region's, or `t`, `t:NAME` or `c`.
+pub(crate) fn kind_of(alloc: Global, text: &[u8]) -> R<Option<VariableKind>>
+    ensures read { IfOk result (λ o. option_map kind_seen o ≡ kind_of text.now) }
+    ensures err { OnErr result (result ≡ Err TermError.Memory) }
+{
+    if let Some(kind) = region_kind_of(alloc, text)? {
+        return Ok(Some(kind));
+    }
+    match text {
+        b"t" => Ok(Some(VariableKind::Type(None))),
+        b"c" => Ok(Some(VariableKind::Constant)),
+        _ => match name_after(alloc, b"t:", text)? {
+            Some(name) => Ok(Some(VariableKind::Type(Some(name)))),
+            None => Ok(None),
+        },
+    }
+}
+
+/// The expressions as kinds.
+fn kinds_of(alloc: Global, items: &[Expr]) -> R<Option<Vec<VariableKind>>>
+    ensures read { IfOk result (λ o. option_map (λ v. mapped kind_seen v.items) o ≡ and_then (words_of (exprs_in items.now)) (each_of kind_of)) }
+    ensures err { OnErr result (result ≡ Err TermError.Memory) }
+{
+    let mut kinds = Vec::new(alloc);
+    for item in items {
+        let Expr::Word(word) = item else {
+            return Ok(None);
+        };
+        match kind_of(alloc, word.as_bytes())? {
+            Some(kind) => kinds.push(kind)?,
+            None => return Ok(None),
+        }
+    }
+    Ok(Some(kinds))
+}
+
+// The kinds behind the word `for`.
+fn kinds_behind_for(alloc: Global, items: &[Expr]) -> R<Option<Vec<VariableKind>>>
+    ensures read { IfOk result (λ o. option_map (λ v. mapped kind_seen v.items) o ≡ bind_of (Group (exprs_in items.now))) }
+    ensures err { OnErr result (result ≡ Err TermError.Memory) }
+{
+    match items.split_first() {
+        Some((Expr::Word(word), rest)) if word.as_bytes() == b"for".as_slice() => {
+            kinds_of(alloc, rest)
+        }
+        _ => Ok(None),
+    }
+}
+
+/// The group `(for K*)`, as the kinds of the variables that are bound.
+pub(crate) fn bind_of(alloc: Global, item: &Expr) -> R<Option<Vec<VariableKind>>>
+    ensures read { IfOk result (λ o. option_map (λ v. mapped kind_seen v.items) o ≡ bind_of (expr_of item.now)) }
+    ensures err { OnErr result (result ≡ Err TermError.Memory) }
+{
+    match item {
+        Expr::Group(group) => kinds_behind_for(alloc, group.as_slice()),
+        Expr::Word(_) => Ok(None),
+    }
+}
+
+#[cfg(test)]
+mod tests {
+    use super::*;
+    use crate::expression::Exprs;
+    use std::test::Fail;
+
+    // A kind as a letter: `t`, `r`, `e` and `c`, and a capital where it has a name. `-` is none.
+    fn letter(kind: &Option<VariableKind>) -> u8 {
+        match kind {
+            None => b'-',
+            Some(VariableKind::Type(None)) => b't',
+            Some(VariableKind::Type(Some(_))) => b'T',
+            Some(VariableKind::Region(None)) => b'r',
+            Some(VariableKind::Region(Some(_))) => b'R',
+            Some(VariableKind::Environment) => b'e',
+            Some(VariableKind::Constant) => b'c',
+        }
+    }
+
+    #[test]
+    fn kinds_have_a_sort_and_perhaps_a_name(rt: HostRuntime) -> Result<(), Fail> {
+        let rows: [(&[u8], u8, u8); 14] = [
+            (b"r", b'r', b'r'),
+            (b"env", b'e', b'e'),
+            (b"t", b't', b'-'),
+            (b"c", b'c', b'-'),
+            (b"r:A_1", b'R', b'R'),
+            (b"t:Item", b'T', b'-'),
+            (b"r:", b'-', b'-'),
+            (b"t:", b'-', b'-'),
+            (b"r:a", b'-', b'-'),
+            (b"c:A", b'-', b'-'),
+            (b"env:A", b'-', b'-'),
+            (b"rr", b'-', b'-'),
+            (b"", b'-', b'-'),
+            (b"R", b'-', b'-'),
+        ];
+        for (text, want, region) in rows {
+            assert_eq!(rt; letter(&kind_of(rt.alloc(), text)?), want);
+            assert_eq!(rt; letter(&region_kind_of(rt.alloc(), text)?), region);
+        }
+        Ok(())
+    }
+
+    // How many kinds the group of these words binds.
+    fn bound(alloc: Global, words: &[&[u8]]) -> R<Option<usize>> {
+        let mut group = Exprs::new(alloc);
+        for word in words {
+            group.push(Expr::Word(Text::from_bytes(alloc, word)?))?;
+        }
+        match bind_of(alloc, &Expr::Group(group))? {
+            Some(kinds) => Ok(Some(kinds.len())),
+            None => Ok(None),
+        }
+    }
+
+    #[test]
+    fn a_group_begins_with_for(rt: HostRuntime) -> Result<(), Fail> {
+        let alloc = rt.alloc();
+        assert_eq!(rt; bound(alloc, &[b"for"])?, Some(0));
+        assert_eq!(rt; bound(alloc, &[b"for", b"t", b"r", b"t"])?, Some(3));
+        assert_eq!(rt; bound(alloc, &[b"for", b"t", b"u8"])?, None);
+        assert_eq!(rt; bound(alloc, &[b"t"])?, None);
+        assert_eq!(rt; bound(alloc, &[])?, None);
+        Ok(())
+    }
+}
