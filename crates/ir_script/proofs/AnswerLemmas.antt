@@ -1,5 +1,5 @@
 -- What a line meets and writes, and what the lines do together.
-use Rattle.std.proofs.Common.{◌≡◌, ◌∙◌, ◌≤◌, ◌<◌, ℕ, suc, Bool, true, false, cond, ◌&&◌, nat_le, List, [], ◌∷◌, ◌++◌, length, bytes_eq, codes, Option, Some, None, Ok, Err, refl, sym, ap, subst, ⊎_elim, true≢false, arith}
+use Rattle.std.proofs.Common.{◌≡◌, ◌∙◌, ◌≤◌, ◌<◌, ℕ, suc, Bool, true, false, cond, ◌&&◌, nat_le, List, [], ◌∷◌, ◌++◌, length, bytes_eq, codes, Option, Some, None, Result, Ok, Err, refl, sym, ap, subst, inl, inr, ⊎_elim, true≢false, arith}
 use Rattle.std.specs.Option.{option_map}
 use Rattle.std.proofs.lemmas.Bool.{and_from}
 use Rattle.std.specs.Prelude.{sum_by}
@@ -12,7 +12,7 @@ use Rattle.ir_laws.specs.Cause as cause
 use Rattle.ir_laws.specs.Cause.{is_cause_among}
 use Rattle.ir_laws.specs.Causes.{earliest, tree_stages, tree_stages_if, are_listed, limit_causes, unlisted_causes, size_causes}
 use Rattle.ir_laws.specs.Counts.{size}
-use Rattle.ir_laws.specs.Environment.{form_trees, with_own}
+use Rattle.ir_laws.specs.Environment.{form_trees, tree_of as tree_in, with_own}
 use Rattle.ir_laws.specs.Elaboration.{all_fit}
 use Rattle.ir_laws.specs.Expression as expression
 use Rattle.ir_laws.specs.Expression.{expr_list, lines_of}
@@ -20,14 +20,14 @@ use Rattle.ir_script.specs.declared.expression.Expr as code_expr
 use Rattle.ir_script.specs.Views.{exprs_in}
 use Rattle.ir_laws.specs.Form.{Form, Let, Print, Same, Flags, FormRow, name_in, let_form, one_term, two_terms, form_of, form_of_exprs}
 use Rattle.ir_laws.specs.Formed.{is_formed}
-use Rattle.ir_laws.specs.Heap.{Heap}
+use Rattle.ir_laws.specs.Heap.{Heap, tree_of}
 use Rattle.ir_laws.specs.Held.{HoldsJust}
 use Rattle.ir_laws.specs.Limits.{Limits, capped, is_within}
 use Rattle.ir_laws.specs.LineTrees.{operands, made_trees}
-use Rattle.ir_laws.specs.Names.{unless, name_causes}
+use Rattle.ir_laws.specs.Names.{unless, unknown_in, name_causes}
 use Rattle.ir_laws.specs.Parts.{with_parts_of}
 use Rattle.ir_laws.specs.Phrase.{Phrase, phrase_of, and_then}
-use Rattle.ir_laws.specs.Sorts.{sort_causes}
+use Rattle.ir_laws.specs.Sorts.{misfits, operand, sort_causes}
 use Rattle.ir_laws.specs.Start.{start_parts}
 use Rattle.ir_laws.specs.Tree.{Text, Term}
 use Rattle.ir_laws.proofs.FormedLemmas.{phrases_formed}
@@ -35,9 +35,9 @@ use Rattle.ir_script.specs.declared.causes.Cause.{Cause}
 use Rattle.ir_script.specs.declared.causes.Cause.TheVariants as code
 use Rattle.ir_script.specs.declared.causes.ScriptError.{ScriptError}
 use Rattle.ir_table.specs.Start.{IsStartRefusal}
-use Rattle.ir_script.specs.Scope.{Named}
+use Rattle.ir_script.specs.Scope.{Named, env_of}
 use Rattle.ir_script.specs.Causes.{Says, IsAmong, cause_seen, cause_of}
-use Rattle.ir_script.specs.Answered.{left_by, causes_met, written, left_after, AnswersForm, parts_left, AllowsCause, AllowsFault}
+use Rattle.ir_script.specs.Answered.{left_by, causes_met, written, left_after, AnswersForm, MakesTerm, parts_left, AllowsCause, AllowsFault}
 
 -- ---- the earliest stage
 
@@ -77,39 +77,41 @@ module _ (limits : Limits) (form : Form Phrase) (s : State) where
 
 -- ---- the stages over trees, by the tests on the trees
 
-tests : (within listed few small : Bool) → List cause.Cause
-tests within listed few small = earliest ((unless within cause.TooDeep ++ unless few cause.TooMany) ∷ (unless listed cause.Unlisted ++ []) ∷ (unless within cause.TooDeep ++ unless few cause.TooMany) ∷ unless small cause.TooLarge ∷ [])
+-- nothing to be spelled is not too large
+none_is_small : (limits : Limits) → size_causes limits [] ≡ []
+none_is_small limits =
+    let none : nat_le 0 limits.size ≡ true = grind (arith, nat_tests) in
+    ap (λ b. unless b cause.TooLarge) none
 
-deep_test : (listed few small : Bool) → is_cause_among (tests false listed few small) cause.TooDeep ≡ true
+tests : (within listed few : Bool) → List cause.Cause
+tests within listed few = earliest ((unless within cause.TooDeep ++ unless few cause.TooMany) ∷ (unless listed cause.Unlisted ++ []) ∷ (unless within cause.TooDeep ++ unless few cause.TooMany) ∷ [] ∷ [])
+
+deep_test : (listed few : Bool) → is_cause_among (tests false listed few) cause.TooDeep ≡ true
 unfolding tests
-deep_test listed few small = refl
+deep_test listed few = refl
 
-count_test : (within listed small : Bool) → is_cause_among (tests within listed false small) cause.TooMany ≡ true
+count_test : (within listed : Bool) → is_cause_among (tests within listed false) cause.TooMany ≡ true
 unfolding tests
-count_test true listed small = refl
-count_test false listed small = refl
+count_test true listed = refl
+count_test false listed = refl
 
-unlisted_test : (small : Bool) → is_cause_among (tests true false true small) cause.Unlisted ≡ true
+unlisted_test : is_cause_among (tests true false true) cause.Unlisted ≡ true
 unfolding tests
-unlisted_test small = refl
+unlisted_test = refl
 
-large_test : is_cause_among (tests true true true false) cause.TooLarge ≡ true
-unfolding tests
-large_test = refl
-
-clear_test : tests true true true true ≡ []
+clear_test : tests true true true ≡ []
 unfolding tests
 clear_test = refl
 
--- The form meets no cause of names and sorts, and has this form with trees. Its operands are all that it makes, and it spells those others
-pub record HasTrees (limits : Limits) (form : Form Phrase) (s : State) (tree : Form Term) (ts us : List Term) : Type 0 where
+-- The form meets no cause of names and sorts, and has this form with trees. Its operands are all that it makes, and it spells none
+pub record HasTrees (limits : Limits) (form : Form Phrase) (s : State) (tree : Form Term) (ts : List Term) : Type 0 where
   pub known : name_causes s.environment form ≡ []
   pub fits : sort_causes s.environment (with_own s.environment form) form ≡ []
   pub trees : form_trees (with_own s.environment form) form ≡ Some tree
   pub made : operands tree ++ made_trees limits s.environment tree ≡ ts
-  pub staged : tree_stages limits s.environment s.parts tree ≡ limit_causes limits s.parts ts ∷ (unlisted_causes ts ++ []) ∷ limit_causes limits s.parts ts ∷ size_causes limits us ∷ []
+  pub staged : tree_stages limits s.environment s.parts tree ≡ limit_causes limits s.parts ts ∷ (unlisted_causes ts ++ []) ∷ limit_causes limits s.parts ts ∷ size_causes limits [] ∷ []
 
-module _ (limits : Limits) (form : Form Phrase) (s : State) (tree : Form Term) (ts us : List Term) (has : HasTrees limits form s tree ts us) where
+module _ (limits : Limits) (form : Form Phrase) (s : State) (tree : Form Term) (ts : List Term) (has : HasTrees limits form s tree ts) where
   -- what is written, and what is left
   pub form_written : written (Some form) s ≡ with_end (line_text s.environment tree)
   form_written = ap (text_of_line s) has.trees
@@ -123,52 +125,116 @@ module _ (limits : Limits) (form : Form Phrase) (s : State) (tree : Form Term) (
   few_parts : Bool
   few_parts = nat_le (length (with_parts_of s.parts ts)) limits.nodes
 
-  is_small : Bool
-  is_small = nat_le (sum_by size us) limits.size
-
-  by_tests : causes_met limits (Some form) s ≡ tests (all_fit (is_within limits) ts) (all_fit (are_listed []) ts) few_parts is_small
-  unfolding stages own_names own_sorts own_trees tests few_parts is_small
-  by_tests = met limits form s ∙ (λ i. stages limits form s (has.known i) (has.fits i) (has.trees i)) ∙ ap earliest has.staged
+  by_tests : causes_met limits (Some form) s ≡ tests (all_fit (is_within limits) ts) (all_fit (are_listed []) ts) few_parts
+  unfolding stages own_names own_sorts own_trees tests few_parts
+  by_tests =
+      let low = limit_causes limits s.parts ts in
+      met limits form s ∙ (λ i. stages limits form s (has.known i) (has.fits i) (has.trees i)) ∙ ap earliest has.staged
+      ∙ ap (λ none. earliest (low ∷ (unlisted_causes ts ++ []) ∷ low ∷ none ∷ [])) (none_is_small limits)
 
   -- a tree that passes a limit
   pub deep_met : all_fit (is_within limits) ts ≡ false → Says code.TooDeep (causes_met limits (Some form) s)
-  deep_met h = subst (λ cs. is_cause_among cs cause.TooDeep ≡ true) (sym (by_tests ∙ ap (λ b. tests b (all_fit (are_listed []) ts) few_parts is_small) h)) (deep_test (all_fit (are_listed []) ts) few_parts is_small)
+  deep_met h = subst (λ cs. is_cause_among cs cause.TooDeep ≡ true) (sym (by_tests ∙ ap (λ b. tests b (all_fit (are_listed []) ts) few_parts) h)) (deep_test (all_fit (are_listed []) ts) few_parts)
 
   -- too many parts, whether or not a tree passes a limit
   pub many_met : limits.nodes < length (with_parts_of s.parts ts) → Says code.TooMany (causes_met limits (Some form) s)
   unfolding few_parts
   many_met h =
       let many : few_parts ≡ false = grind (arith, nat_tests) in
-      subst (λ cs. is_cause_among cs cause.TooMany ≡ true) (sym (by_tests ∙ ap (λ b. tests (all_fit (is_within limits) ts) (all_fit (are_listed []) ts) b is_small) many)) (count_test (all_fit (is_within limits) ts) (all_fit (are_listed []) ts) is_small)
+      subst (λ cs. is_cause_among cs cause.TooMany ≡ true) (sym (by_tests ∙ ap (tests (all_fit (is_within limits) ts) (all_fit (are_listed []) ts)) many)) (count_test (all_fit (is_within limits) ts) (all_fit (are_listed []) ts))
 
   module _ (low : all_fit (is_within limits) ts ≡ true) (few : length (with_parts_of s.parts ts) ≤ limits.nodes) where
-    enough_parts : (listed : Bool) → all_fit (are_listed []) ts ≡ listed → causes_met limits (Some form) s ≡ tests true listed true is_small
+    low_tests : (listed : Bool) → all_fit (are_listed []) ts ≡ listed → causes_met limits (Some form) s ≡ tests true listed true
     unfolding few_parts
-    enough_parts listed h =
+    low_tests listed h =
         let enough : few_parts ≡ true = grind (arith, nat_tests) in
-        by_tests ∙ (λ i. tests (low i) (h i) (enough i) is_small)
+        by_tests ∙ (λ i. tests (low i) (h i) (enough i))
 
     -- a variable that its binder doesn't list
     pub unlisted_met : all_fit (are_listed []) ts ≡ false → Says code.Unlisted (causes_met limits (Some form) s)
-    unlisted_met unlisted = subst (λ cs. is_cause_among cs cause.Unlisted ≡ true) (sym (enough_parts false unlisted)) (unlisted_test is_small)
+    unlisted_met unlisted = subst (λ cs. is_cause_among cs cause.Unlisted ≡ true) (sym (low_tests false unlisted)) unlisted_test
 
-    module _ (listed : all_fit (are_listed []) ts ≡ true) where
-      low_tests : (small : Bool) → is_small ≡ small → causes_met limits (Some form) s ≡ tests true true true small
-      low_tests small h = enough_parts true listed ∙ ap (tests true true true) h
+    -- trees that meet no cause
+    pub clear_met : all_fit (are_listed []) ts ≡ true → causes_met limits (Some form) s ≡ []
+    clear_met listed = low_tests true listed ∙ clear_test
 
-      -- trees that are too large
-      pub large_met : limits.size < sum_by size us → Says code.TooLarge (causes_met limits (Some form) s)
-      unfolding is_small
-      large_met h =
-          let large : is_small ≡ false = grind (arith, nat_tests) in
-          subst (λ cs. is_cause_among cs cause.TooLarge ≡ true) (sym (low_tests false large)) large_test
+-- ---- forms of one term
 
-      -- trees that meet no cause
-      pub clear_met : sum_by size us ≤ limits.size → causes_met limits (Some form) s ≡ []
-      unfolding is_small
-      clear_met h =
-          let small : is_small ≡ true = grind (arith, nat_tests) in
-          low_tests true small ∙ clear_test
+-- the last stage apart from those before
+last_apart : (stages : List (List cause.Cause)) (last : List cause.Cause) → earliest (stages ++ last ∷ []) ≡ earliest (earliest (stages ++ [] ∷ []) ∷ last ∷ [])
+last_apart [] last = refl
+last_apart ([] ∷ stages) last = last_apart stages last
+last_apart ((c ∷ cs) ∷ stages) last = refl
+
+alone : (cs : List cause.Cause) → cs ≡ earliest (cs ∷ [])
+alone [] = refl
+alone (c ∷ cs) = refl
+
+-- The form has one term and makes no other. It meets what `flags` meets of the term, and then it may spell these
+pub record HasTerm (limits : Limits) (form : Form Phrase) (p : Phrase) (s : State) (make : Term → Form Term) (us : Term → List Term) : Type 0 where
+  pub known : name_causes s.environment form ≡ unknown_in s.environment None p
+  pub fits : sort_causes s.environment (with_own s.environment form) form ≡ misfits s.environment operand p
+  pub trees : form_trees (with_own s.environment form) form ≡ option_map make (tree_in s.environment p)
+  pub made : (t : Term) → operands (make t) ++ made_trees limits s.environment (make t) ≡ t ∷ []
+  pub staged : (t : Term) → tree_stages limits s.environment s.parts (make t) ≡ limit_causes limits s.parts (t ∷ []) ∷ (unlisted_causes (t ∷ []) ++ []) ∷ limit_causes limits s.parts (t ∷ []) ∷ size_causes limits (us t) ∷ []
+
+module _ (limits : Limits) (form : Form Phrase) (p : Phrase) (s : State) (make : Term → Form Term) (us : Term → List Term) (has : HasTerm limits form p s make us) where
+  -- the size of what is spelled
+  last_stage : Option Term → List (List cause.Cause)
+  last_stage o = elim o [ Some t ↦ size_causes limits (us t) ∷ [] | None ↦ [] ]
+
+  staged_met : (names sorts : List cause.Cause) (o : Option Term) → earliest (names ∷ sorts ∷ tree_stages_if limits s.environment s.parts (option_map make o)) ≡ earliest (earliest (names ∷ sorts ∷ tree_stages_if limits s.environment s.parts (option_map Flags o)) ∷ last_stage o)
+  unfolding last_stage
+  staged_met names sorts None = alone (earliest (names ∷ sorts ∷ []))
+  staged_met names sorts (Some t) =
+      let low = limit_causes limits s.parts (t ∷ []) in
+      ap (λ stages. earliest (names ∷ sorts ∷ stages)) (has.staged t)
+      ∙ last_apart (names ∷ sorts ∷ low ∷ (unlisted_causes (t ∷ []) ++ []) ∷ low ∷ []) (size_causes limits (us t))
+      ∙ ap (λ none. earliest (earliest (names ∷ sorts ∷ low ∷ (unlisted_causes (t ∷ []) ++ []) ∷ low ∷ none ∷ []) ∷ size_causes limits (us t) ∷ [])) (sym (none_is_small limits))
+
+  term_met : causes_met limits (Some form) s ≡ earliest (causes_met limits (Some (Flags p)) s ∷ last_stage (tree_in s.environment p))
+  term_met = (λ i. earliest (has.known i ∷ has.fits i ∷ tree_stages_if limits s.environment s.parts (has.trees i))) ∙ staged_met (unknown_in s.environment None p) (misfits s.environment operand p) (tree_in s.environment p)
+
+  module _ (now : Heap Part) (names : List Named) where
+    -- a term that isn't made
+    pub term_fault : (r : Result Unit Cause) (c : Cause) (text : Text) (after : List Named) → r ≡ Err c → MakesTerm limits p s now names (Err c) → AnswersForm limits (Some form) s text text now after r
+    term_fault r c text after is m = subst (AnswersForm limits (Some form) s text text now after) (sym is) (record {
+      clear = tt;
+      text = tt;
+      left = tt;
+      names_are = tt;
+      fault = ⊎_elim inl (λ says. inr (subst (Says c) (sym (term_met ∙ earliest_among (causes_met limits (Some (Flags p)) s) (last_stage (tree_in s.environment p)) (cause_seen c) says)) says)) m.fault;
+    })
+
+    module _ (q : Part) (m : MakesTerm limits p s now names (Ok q)) where
+      tree_is : form_trees (with_own s.environment form) form ≡ Some (make (tree_of now q))
+      tree_is = has.trees ∙ ap (option_map make) m.tree
+
+      sized : (small : Bool) → nat_le (sum_by size (us (tree_of now q))) limits.size ≡ small → causes_met limits (Some form) s ≡ earliest (unless small cause.TooLarge ∷ [])
+      unfolding last_stage
+      sized small is = term_met ∙ (λ i. earliest (m.clear i ∷ last_stage (m.tree i))) ∙ ap (λ b. earliest (unless b cause.TooLarge ∷ [])) is
+
+      -- what it spells is too large
+      pub term_large : (text : Text) (after : List Named) → limits.size < sum_by size (us (tree_of now q)) → AnswersForm limits (Some form) s text text now after (Err code.TooLarge)
+      term_large text after h =
+          let large : nat_le (sum_by size (us (tree_of now q))) limits.size ≡ false = grind (arith, nat_tests) in
+          record { clear = tt; text = tt; left = tt; names_are = tt; fault = inr (subst (λ cs. is_cause_among cs cause.TooLarge ≡ true) (sym (sized false large)) refl) }
+
+      left_parts : (left_after limits (Some (Flags p)) s).parts ≡ (left_after limits (Some form) s).parts
+      left_parts = ap (λ o. (after_line limits s (option_map Flags o)).parts) m.tree ∙ ap (with_parts_of s.parts) (sym (has.made (tree_of now q))) ∙ sym (ap (λ o. (after_line limits s o).parts) tree_is)
+
+      -- a form that is answered
+      pub term_answered : (before text : Text) (after : List Named) → sum_by size (us (tree_of now q)) ≤ limits.size → text ≡ before ++ with_end (line_text s.environment (make (tree_of now q))) → declared s.environment (make (tree_of now q)) ≡ env_of now after
+          → AnswersForm limits (Some form) s before text now after (Ok tt)
+      term_answered before text after h writes declares =
+          let small : nat_le (sum_by size (us (tree_of now q))) limits.size ≡ true = grind (arith, nat_tests) in
+          record {
+            clear = sized true small;
+            text = writes ∙ ap (λ w. before ++ w) (sym (ap (text_of_line s) tree_is));
+            left = subst (HoldsJust now) left_parts m.left;
+            names_are = ap (λ o. (after_line limits s o).environment) tree_is ∙ declares;
+            fault = tt;
+          }
 
 -- ---- forms
 

@@ -1,13 +1,12 @@
 -- What `let`, `print`, `same` and `flags` answer at each of their ends.
 use Rattle.std.proofs.Common.{◌≡◌, ◌∙◌, ◌≤◌, ◌<◌, Bool, true, false, ◌&&◌, List, [], ◌∷◌, ◌++◌, length, codes, flat_map, append_assoc, None, Some, option_map, Result, Ok, Err, refl, sym, ap, subst, inl, inr, true≢false, arith}
-use Rattle.std.specs.Prelude.{sum_by}
 use Rattle.std.proofs.lemmas.Bool.{and_parts, and_from, or_left}
 use Rattle.std.proofs.lemmas.List.{append-nil}
 use Rattle.ir_core.specs.declared.errors.TermError.{TermError}
 use Rattle.ir_core.specs.declared.errors.TermError.TheVariants as error
 use Rattle.ir_core.specs.declared.handles.Part.{Part}
 use Rattle.ir_laws.specs.declared.labels.Sort.TheVariants.{OfList}
-use Rattle.ir_laws.specs.Answer.{declared, line_text, with_end, yes_or_no, flags_text}
+use Rattle.ir_laws.specs.Answer.{declared, line_text, with_end, yes_or_no}
 use Rattle.ir_laws.specs.Cause as cause
 use Rattle.ir_laws.specs.Cause.{is_cause_among}
 use Rattle.ir_laws.specs.Causes.{are_listed}
@@ -38,17 +37,17 @@ use Rattle.ir_table.proofs.CallerLemmas.{live_sort}
 use Rattle.ir_table.proofs.MakesLemmas.{makes_held, makes_then, makes_err}
 use Rattle.ir_script.specs.declared.causes.Cause.{Cause}
 use Rattle.ir_script.specs.declared.causes.Cause.TheVariants as code
-use Rattle.ir_script.specs.Answered.{AnswersForm, YesOrNo, causes_met, left_by}
+use Rattle.ir_script.specs.Answered.{AnswersForm, MakesTerm, YesOrNo, causes_met, left_by}
 use Rattle.ir_script.specs.Built.{Builds}
 use Rattle.ir_script.specs.Causes.{cause_of, Says}
 use Rattle.ir_script.specs.Makeable.{is_makeable, is_buildable, phrase_sort}
 use Rattle.ir_script.specs.Scope.{Named, operand_sorts, env_of, IsTerm, AreTerms}
-use Rattle.ir_script.proofs.AnswerLemmas.{name_met, sort_met, HasTrees, deep_met, many_met, large_met, clear_met, unlisted_met, form_written, form_names, form_parts}
+use Rattle.ir_script.proofs.AnswerLemmas.{name_met, sort_met, HasTrees, deep_met, many_met, clear_met, unlisted_met, form_written, form_names, form_parts, HasTerm, term_fault, term_large, term_answered}
 use Rattle.ir_script.proofs.CauseLemmas.{among_left, says_left}
 use Rattle.ir_script.proofs.MadeLemmas.{parts_within}
 use Rattle.ir_script.proofs.MakeableLemmas.{operand_makeable}
 use Rattle.ir_script.proofs.TreeLemmas.{planted}
-use Rattle.ir_script.proofs.ScopeLemmas.{env_later, env_push, terms_later, terms_push}
+use Rattle.ir_script.proofs.ScopeLemmas.{env_later, env_push, terms_push}
 
 -- ---- operands
 
@@ -82,17 +81,17 @@ module _ (limits : Limits) (old : State) (is : old.limits ≡ limits) (held : Li
   pub stands_low : (cx : Interner) (q : Part) (t : Term) → IsLive (heap cx) q → tree_of (heap cx) q ≡ t → (state cx).limits ≡ old.limits → is_within (capped limits) t ≡ true
   stands_low cx q t live stands kept = (λ i. is_within (capped (sym (kept ∙ is) i)) (sym stands i)) ∙ cx.store.low q live
 
-  module _ (form : Form Phrase) (tree : Form Term) (ts us : List Term) (has : HasTrees (capped limits) form (left_by old.heap ns held) tree ts us) where
+  module _ (form : Form Phrase) (tree : Form Term) (ts : List Term) (has : HasTrees (capped limits) form (left_by old.heap ns held) tree ts) where
     -- operands that aren't made
     pub refused : {T : Type 0} (new : State) (e : TermError) (c : Cause) (text : Text) (now : Heap Part) (names : List Named) → Makes {T = T} old new (flat_map parts ts) (Err e) → c ≡ cause_of e → AnswersForm (capped limits) (Some form) (left_by old.heap ns held) text text now names (Err c)
     refused new error.TooDeep c text now names m of =
         let deep = m.too_deep refl in
         let passes = not_all (all_fit (is_within (capped limits)) ts) (λ within. true≢false (sym (parts_within (capped limits) ts deep.0 within deep.1) ∙ (λ i. is_within (capped (sym is i)) deep.0) ∙ deep.2)) in
-        rw of (record { clear = tt; text = tt; left = tt; names_are = tt; fault = inr (deep_met (capped limits) form (left_by old.heap ns held) tree ts us has passes) })
+        rw of (record { clear = tt; text = tt; left = tt; names_are = tt; fault = inr (deep_met (capped limits) form (left_by old.heap ns held) tree ts has passes) })
     refused new error.TooMany c text now names m of =
         let many = m.too_many refl (with_parts_of held ts) (record { held = λ q live. with_parts_held held ts (tree_of old.heap q) (just.only q live); new = with_parts_new held ts }) in
         let most = ap (λ (l : Limits). (capped l).nodes) is in
-        rw of (record { clear = tt; text = tt; left = tt; names_are = tt; fault = inr (many_met (capped limits) form (left_by old.heap ns held) tree ts us has (omega arith)) })
+        rw of (record { clear = tt; text = tt; left = tt; names_are = tt; fault = inr (many_met (capped limits) form (left_by old.heap ns held) tree ts has (omega arith)) })
     refused new error.Memory c text now names m of = rw of (record { clear = tt; text = tt; left = tt; names_are = tt; fault = inl refl })
     refused new error.Escapes c text now names m of = absurd m.causes
     refused new error.MissingVar c text now names m of = absurd m.causes
@@ -110,20 +109,16 @@ module _ (limits : Limits) (old : State) (is : old.limits ≡ limits) (held : Li
 
       -- terms with a variable that its binder doesn't list
       pub unlisted : (text : Text) (names : List Named) → all_fit (are_listed []) ts ≡ false → AnswersForm (capped limits) (Some form) (left_by old.heap ns held) text text (heap cx) names (Err code.Unlisted)
-      unlisted text names some = record { clear = tt; text = tt; left = tt; names_are = tt; fault = inr (unlisted_met (capped limits) form (left_by old.heap ns held) tree ts us has low few some) }
-
-      -- terms that are too large
-      pub large : (text : Text) (names : List Named) → all_fit (are_listed []) ts ≡ true → (capped limits).size < sum_by size us → AnswersForm (capped limits) (Some form) (left_by old.heap ns held) text text (heap cx) names (Err code.TooLarge)
-      large text names listed big = record { clear = tt; text = tt; left = tt; names_are = tt; fault = inr (large_met (capped limits) form (left_by old.heap ns held) tree ts us has low few listed big) }
+      unlisted text names some = record { clear = tt; text = tt; left = tt; names_are = tt; fault = inr (unlisted_met (capped limits) form (left_by old.heap ns held) tree ts has low few some) }
 
       -- a form that is answered
-      pub answered : (before after : Text) (names : List Named) → all_fit (are_listed []) ts ≡ true → sum_by size us ≤ (capped limits).size → after ≡ before ++ with_end (line_text (env_of old.heap ns) tree) → declared (env_of old.heap ns) tree ≡ env_of (heap cx) names
+      pub answered : (before after : Text) (names : List Named) → all_fit (are_listed []) ts ≡ true → after ≡ before ++ with_end (line_text (env_of old.heap ns) tree) → declared (env_of old.heap ns) tree ≡ env_of (heap cx) names
           → AnswersForm (capped limits) (Some form) (left_by old.heap ns held) before after (heap cx) names (Ok tt)
-      answered before after names listed small writes declares = record {
-        clear = clear_met (capped limits) form (left_by old.heap ns held) tree ts us has low few listed small;
-        text = writes ∙ ap (λ w. before ++ w) (sym (form_written (capped limits) form (left_by old.heap ns held) tree ts us has));
-        left = subst (HoldsJust (heap cx)) (sym (form_parts (capped limits) form (left_by old.heap ns held) tree ts us has)) now_held;
-        names_are = form_names (capped limits) form (left_by old.heap ns held) tree ts us has ∙ declares;
+      answered before after names listed writes declares = record {
+        clear = clear_met (capped limits) form (left_by old.heap ns held) tree ts has low few listed;
+        text = writes ∙ ap (λ w. before ++ w) (sym (form_written (capped limits) form (left_by old.heap ns held) tree ts has));
+        left = subst (HoldsJust (heap cx)) (sym (form_parts (capped limits) form (left_by old.heap ns held) tree ts has)) now_held;
+        names_are = form_names (capped limits) form (left_by old.heap ns held) tree ts has ∙ declares;
         fault = tt;
       }
 
@@ -143,9 +138,6 @@ module _ (limits : Limits) (form : Form Phrase) (h : Heap Part) (ns : List Named
 module _ (h : Heap Part) (ns : List Named) (name : Text) (p : Phrase) where
   pub let_duplicate : is_known (env_of h ns) name ≡ true → Says code.Duplicate (name_causes (env_of h ns) (Let name p))
   let_duplicate known = ap (λ b. is_cause_among (if_so b cause.Duplicate ++ unknown_in (env_of h ns) None p) cause.Duplicate) known
-
-  pub let_known : is_known (env_of h ns) name ≡ false → unknown_in (env_of h ns) None p ≡ [] → name_causes (env_of h ns) (Let name p) ≡ []
-  let_known new known = (λ i. if_so (new i) cause.Duplicate ++ known i)
 
 -- causes of two terms
 module _ (h : Heap Part) (ns : List Named) (p q : Phrase) where
@@ -173,80 +165,82 @@ module _ (h : Heap Part) (ns : List Named) (p q : Phrase) where
 one_tree : {T : Type 0} (old new : State) (t : Term) (r : Result T TermError) → Makes old new (parts t) r → Makes old new (flat_map parts (t ∷ [])) r
 one_tree old new t r = subst (λ (us : List Term). Makes old new us r) (sym (append-nil (parts t)))
 
--- ---- `print`, `flags` and `let`
+-- ---- the only term of a form
 
-module _ (limits : Limits) (old : State) (is : old.limits ≡ limits) (held : List Term) (just : HoldsJust old.heap held) (ns : List Named) (terms : AreTerms old.heap ns)
-    (p : Phrase) (formed : is_formed p ≡ true) (known : unknown_in (env_of old.heap ns) None p ≡ []) (fits : misfits (env_of old.heap ns) operand p ≡ []) where
-  print_trees : {new : State} {r : Result Part TermError} (b : Builds (env_of old.heap ns) ns old new p r) → HasTrees (capped limits) (Print p) (left_by old.heap ns held) (Print b.made) (b.made ∷ []) (b.made ∷ [])
-  print_trees b = record { known = known; fits = fits; trees = ap (option_map Print) b.tree; made = refl; staged = refl }
+module _ (limits : Limits) (old : State) (is : old.limits ≡ limits) (held : List Term) (just : HoldsJust old.heap held) (ns : List Named) (p : Phrase) where
+  -- what `flags` is refused for
+  fault_of_flags : (c : Cause) (now : Heap Part) → AnswersForm (capped limits) (Some (Flags p)) (left_by old.heap ns held) [] [] now ns (Err c) → MakesTerm (capped limits) p (left_by old.heap ns held) now ns (Err c)
+  fault_of_flags c now a = record { clear = tt; tree = tt; left = tt; names_are = tt; fault = a.fault }
 
-  pub print_refused : (new : State) (e : TermError) (c : Cause) (text : Text) (now : Heap Part) → Builds (env_of old.heap ns) ns old new p (Err e) → c ≡ cause_of e → AnswersForm (capped limits) (Some (Print p)) (left_by old.heap ns held) text text now ns (Err c)
-  print_refused new e c text now b of = refused limits old is held just ns (Print p) (Print b.made) (b.made ∷ []) (b.made ∷ []) (print_trees b) new e c text now ns (one_tree old new b.made (Err e) b.makes) of
+  pub term_unknown : (c : Cause) (now : Heap Part) → Says c (unknown_in (env_of old.heap ns) None p) → MakesTerm (capped limits) p (left_by old.heap ns held) now ns (Err c)
+  term_unknown c now says = fault_of_flags c now (name_fault (capped limits) (Flags p) old.heap ns held [] now ns c says)
 
-  module _ (cx : Interner) (q : Part) (b : Builds (env_of old.heap ns) ns old (state cx) p (Ok q)) where
-    low : all_fit (is_within (capped limits)) (b.made ∷ []) ≡ true
-    low = and_from (is_within (capped limits) b.made) true (stands_low limits old is held just ns cx q b.made b.live b.stands b.makes.limits) refl
+  module _ (known : unknown_in (env_of old.heap ns) None p ≡ []) where
+    pub term_misfit : (c : Cause) (now : Heap Part) → Says c (misfits (env_of old.heap ns) operand p) → MakesTerm (capped limits) p (left_by old.heap ns held) now ns (Err c)
+    term_misfit c now says = fault_of_flags c now (sort_fault (capped limits) (Flags p) old.heap ns held [] now ns c known says)
 
-    -- the term's variables are listed as those of its part are
-    made_listed : (listed : Bool) → are_listed [] (tree_of (heap cx) q) ≡ listed → all_fit (are_listed []) (b.made ∷ []) ≡ (listed && true)
-    made_listed listed is = ap (λ t. are_listed [] t && true) (sym b.stands) ∙ ap (λ b. b && true) is
+    module _ (fits : misfits (env_of old.heap ns) operand p ≡ []) where
+      term_trees : {new : State} {r : Result Part TermError} (b : Builds (env_of old.heap ns) ns old new p r) → HasTrees (capped limits) (Flags p) (left_by old.heap ns held) (Flags b.made) (b.made ∷ [])
+      term_trees b = record { known = known; fits = fits; trees = ap (option_map Flags) b.tree; made = refl; staged = refl }
 
-    -- a term with a variable that its binder doesn't list
-    pub print_unlisted : (text : Text) → are_listed [] (tree_of (heap cx) q) ≡ false → AnswersForm (capped limits) (Some (Print p)) (left_by old.heap ns held) text text (heap cx) ns (Err code.Unlisted)
-    print_unlisted text some = unlisted limits old is held just ns (Print p) (Print b.made) (b.made ∷ []) (b.made ∷ []) (print_trees b) cx q (one_tree old (state cx) b.made (Ok q) b.makes) low text ns (made_listed false some)
+      pub term_refused : (new : State) (e : TermError) (c : Cause) (now : Heap Part) → Builds (env_of old.heap ns) ns old new p (Err e) → c ≡ cause_of e → MakesTerm (capped limits) p (left_by old.heap ns held) now ns (Err c)
+      term_refused new e c now b of = fault_of_flags c now (refused limits old is held just ns (Flags p) (Flags b.made) (b.made ∷ []) (term_trees b) new e c [] now ns (one_tree old new b.made (Err e) b.makes) of)
 
-    pub print_large : (text : Text) → are_listed [] (tree_of (heap cx) q) ≡ true → (capped limits).size < size (tree_of (heap cx) q) → AnswersForm (capped limits) (Some (Print p)) (left_by old.heap ns held) text text (heap cx) ns (Err code.TooLarge)
-    print_large text listed big =
-        let same = ap size b.stands in
-        large limits old is held just ns (Print p) (Print b.made) (b.made ∷ []) (b.made ∷ []) (print_trees b) cx q (one_tree old (state cx) b.made (Ok q) b.makes) low text ns (made_listed true listed) (omega arith)
+      module _ (cx : Interner) (q : Part) (b : Builds (env_of old.heap ns) ns old (state cx) p (Ok q)) where
+        low : all_fit (is_within (capped limits)) (b.made ∷ []) ≡ true
+        low = and_from (is_within (capped limits) b.made) true (stands_low limits old is held just ns cx q b.made b.live b.stands b.makes.limits) refl
+
+        -- the term's variables are listed as those of its part are
+        made_listed : (listed : Bool) → are_listed [] (tree_of (heap cx) q) ≡ listed → all_fit (are_listed []) (b.made ∷ []) ≡ (listed && true)
+        made_listed listed is = ap (λ t. are_listed [] t && true) (sym b.stands) ∙ ap (λ b. b && true) is
+
+        -- a term with a variable that its binder doesn't list
+        pub term_unlisted : are_listed [] (tree_of (heap cx) q) ≡ false → MakesTerm (capped limits) p (left_by old.heap ns held) (heap cx) ns (Err code.Unlisted)
+        term_unlisted some = fault_of_flags code.Unlisted (heap cx) (unlisted limits old is held just ns (Flags p) (Flags b.made) (b.made ∷ []) (term_trees b) cx q (one_tree old (state cx) b.made (Ok q) b.makes) low [] ns (made_listed false some))
+
+        -- a term that is made
+        pub term_made : AreTerms old.heap ns → are_listed [] (tree_of (heap cx) q) ≡ true → MakesTerm (capped limits) p (left_by old.heap ns held) (heap cx) ns (Ok q)
+        term_made terms listed =
+            let same = sym (env_later old.heap (heap cx) b.makes.grows ns terms) in
+            let a = answered limits old is held just ns (Flags p) (Flags b.made) (b.made ∷ []) (term_trees b) cx q (one_tree old (state cx) b.made (Ok q) b.makes) low [] _ ns (made_listed true listed) refl same in
+            record { clear = a.clear; tree = b.tree ∙ ap Some (sym b.stands); left = a.left; names_are = same; fault = tt }
+
+-- ---- `print` and `let`
+
+module _ (limits : Limits) (p : Phrase) (h : Heap Part) (ns : List Named) (held : List Term) (now : Heap Part) where
+  print_has : HasTerm limits (Print p) p (left_by h ns held) Print (λ t. t ∷ [])
+  print_has = record { known = refl; fits = refl; trees = refl; made = λ t. refl; staged = λ t. refl }
+
+  pub print_fault : (r : Result Unit Cause) (c : Cause) (text : Text) → r ≡ Err c → MakesTerm limits p (left_by h ns held) now ns (Err c) → AnswersForm limits (Some (Print p)) (left_by h ns held) text text now ns r
+  print_fault r c text = term_fault limits (Print p) p (left_by h ns held) Print (λ t. t ∷ []) print_has now ns r c text ns
+
+  module _ (q : Part) (m : MakesTerm limits p (left_by h ns held) now ns (Ok q)) where
+    pub print_large : (text : Text) → limits.size < size (tree_of now q) → AnswersForm limits (Some (Print p)) (left_by h ns held) text text now ns (Err code.TooLarge)
+    print_large text big = term_large limits (Print p) p (left_by h ns held) Print (λ t. t ∷ []) print_has now ns q m text ns (omega arith)
 
     -- a term that is spelled
-    pub print_answered : (before spelled after : Text) → are_listed [] (tree_of (heap cx) q) ≡ true → size (tree_of (heap cx) q) ≤ (capped limits).size → spelled ≡ before ++ spell (λ id. codes "?") (tree_of (heap cx) q) → after ≡ spelled ++ 10 ∷ []
-        → AnswersForm (capped limits) (Some (Print p)) (left_by old.heap ns held) before after (heap cx) ns (Ok tt)
-    print_answered before spelled after listed small one two =
-        let same = ap size b.stands in
-        answered limits old is held just ns (Print p) (Print b.made) (b.made ∷ []) (b.made ∷ []) (print_trees b) cx q (one_tree old (state cx) b.made (Ok q) b.makes) low before after ns (made_listed true listed) (omega arith)
-        (two ∙ ap (λ w. w ++ 10 ∷ []) (one ∙ ap (λ t. before ++ spell (λ id. codes "?") t) b.stands) ∙ append_assoc before (spell (λ id. codes "?") b.made) (10 ∷ []))
-        (sym (env_later old.heap (heap cx) b.makes.grows ns terms))
+    pub print_answered : (before spelled after : Text) → size (tree_of now q) ≤ limits.size → spelled ≡ before ++ spell (λ id. codes "?") (tree_of now q) → after ≡ spelled ++ 10 ∷ []
+        → AnswersForm limits (Some (Print p)) (left_by h ns held) before after now ns (Ok tt)
+    print_answered before spelled after small one two = term_answered limits (Print p) p (left_by h ns held) Print (λ t. t ∷ []) print_has now ns q m before after ns (omega arith)
+        (two ∙ ap (λ w. w ++ 10 ∷ []) one ∙ append_assoc before (spell (λ id. codes "?") (tree_of now q)) (10 ∷ []))
+        m.names_are
 
-  flags_trees : {new : State} {r : Result Part TermError} (b : Builds (env_of old.heap ns) ns old new p r) → HasTrees (capped limits) (Flags p) (left_by old.heap ns held) (Flags b.made) (b.made ∷ []) []
-  flags_trees b = record { known = known; fits = fits; trees = ap (option_map Flags) b.tree; made = refl; staged = refl }
+  module _ (name : Text) (new : is_known (env_of h ns) name ≡ false) where
+    let_has : HasTerm limits (Let name p) p (left_by h ns held) (Let name) (λ t. [])
+    let_has = record { known = (λ i. if_so (new i) cause.Duplicate ++ unknown_in (env_of h ns) None p); fits = refl; trees = refl; made = λ t. refl; staged = λ t. refl }
 
-  pub flags_refused : (new : State) (e : TermError) (c : Cause) (text : Text) (now : Heap Part) → Builds (env_of old.heap ns) ns old new p (Err e) → c ≡ cause_of e → AnswersForm (capped limits) (Some (Flags p)) (left_by old.heap ns held) text text now ns (Err c)
-  flags_refused new e c text now b of = refused limits old is held just ns (Flags p) (Flags b.made) (b.made ∷ []) [] (flags_trees b) new e c text now ns (one_tree old new b.made (Err e) b.makes) of
+    pub let_fault : (r : Result Unit Cause) (c : Cause) (text : Text) (after : List Named) → r ≡ Err c → MakesTerm limits p (left_by h ns held) now ns (Err c) → AnswersForm limits (Some (Let name p)) (left_by h ns held) text text now after r
+    let_fault r c text after = term_fault limits (Let name p) p (left_by h ns held) (Let name) (λ t. []) let_has now ns r c text after
 
-  pub flags_unlisted : (cx : Interner) (q : Part) → Builds (env_of old.heap ns) ns old (state cx) p (Ok q) → (text : Text) → are_listed [] (tree_of (heap cx) q) ≡ false → AnswersForm (capped limits) (Some (Flags p)) (left_by old.heap ns held) text text (heap cx) ns (Err code.Unlisted)
-  flags_unlisted cx q b text some = unlisted limits old is held just ns (Flags p) (Flags b.made) (b.made ∷ []) [] (flags_trees b) cx q (one_tree old (state cx) b.made (Ok q) b.makes) (low cx q b) text ns (made_listed cx q b false some)
-
-  -- a term whose flags are written
-  pub flags_answered : (cx : Interner) (q : Part) → Builds (env_of old.heap ns) ns old (state cx) p (Ok q) → (before after : Text) → are_listed [] (tree_of (heap cx) q) ≡ true → after ≡ before ++ with_end (Some (flags_text (tree_of (heap cx) q))) → AnswersForm (capped limits) (Some (Flags p)) (left_by old.heap ns held) before after (heap cx) ns (Ok tt)
-  flags_answered cx q b before after listed pushed =
-      answered limits old is held just ns (Flags p) (Flags b.made) (b.made ∷ []) [] (flags_trees b) cx q (one_tree old (state cx) b.made (Ok q) b.makes) (low cx q b) before after ns (made_listed cx q b true listed) (omega arith)
-      (pushed ∙ ap (λ t. before ++ with_end (Some (flags_text t))) b.stands)
-      (sym (env_later old.heap (heap cx) b.makes.grows ns terms))
-
-  module _ (name : Text) (new_name : is_known (env_of old.heap ns) name ≡ false) where
-    let_trees : {new : State} {r : Result Part TermError} (b : Builds (env_of old.heap ns) ns old new p r) → HasTrees (capped limits) (Let name p) (left_by old.heap ns held) (Let name b.made) (b.made ∷ []) []
-    let_trees b = record { known = let_known old.heap ns name p new_name known; fits = fits; trees = ap (option_map (Let name)) b.tree; made = refl; staged = refl }
-
-    pub let_refused : (new : State) (e : TermError) (c : Cause) (text : Text) (now : Heap Part) (names : List Named) → Builds (env_of old.heap ns) ns old new p (Err e) → c ≡ cause_of e → AnswersForm (capped limits) (Some (Let name p)) (left_by old.heap ns held) text text now names (Err c)
-    let_refused new e c text now names b of = refused limits old is held just ns (Let name p) (Let name b.made) (b.made ∷ []) [] (let_trees b) new e c text now names (one_tree old new b.made (Err e) b.makes) of
-
-    module _ (cx : Interner) (q : Part) (b : Builds (env_of old.heap ns) ns old (state cx) p (Ok q)) where
-      pub let_unlisted : (text : Text) (names : List Named) → are_listed [] (tree_of (heap cx) q) ≡ false → AnswersForm (capped limits) (Some (Let name p)) (left_by old.heap ns held) text text (heap cx) names (Err code.Unlisted)
-      let_unlisted text names some = unlisted limits old is held just ns (Let name p) (Let name b.made) (b.made ∷ []) [] (let_trees b) cx q (one_tree old (state cx) b.made (Ok q) b.makes) (low cx q b) text names (made_listed cx q b false some)
-
-      pub let_answered : (text : Text) (names : List Named) → are_listed [] (tree_of (heap cx) q) ≡ true → names ≡ ns ++ (name, q) ∷ [] → AnswersForm (capped limits) (Some (Let name p)) (left_by old.heap ns held) text text (heap cx) names (Ok tt)
-      let_answered text names listed pushed =
-          answered limits old is held just ns (Let name p) (Let name b.made) (b.made ∷ []) [] (let_trees b) cx q (one_tree old (state cx) b.made (Ok q) b.makes) (low cx q b) text text names (made_listed cx q b true listed) (omega arith)
-          (sym (append-nil text))
-          (sym (ap (env_of (heap cx)) pushed ∙ env_push (heap cx) ns name q ∙ (λ i. with_term (env_later old.heap (heap cx) b.makes.grows ns terms i) name (b.stands i))))
+    -- a name that is declared
+    pub let_answered : (q : Part) → MakesTerm limits p (left_by h ns held) now ns (Ok q) → (text : Text) (after : List Named) → after ≡ ns ++ (name, q) ∷ [] → AnswersForm limits (Some (Let name p)) (left_by h ns held) text text now after (Ok tt)
+    let_answered q m text after pushed = term_answered limits (Let name p) p (left_by h ns held) (Let name) (λ t. []) let_has now ns q m text text after (omega arith)
+        (sym (append-nil text))
+        (sym (ap (env_of now) pushed ∙ env_push now ns name q ∙ ap (λ env. with_term env name (tree_of now q)) (sym m.names_are)))
 
 -- the names after `let` are those of terms
-pub let_terms : (old : State) (ns : List Named) (terms : AreTerms old.heap ns) (p : Phrase) → is_formed p ≡ true → unknown_in (env_of old.heap ns) None p ≡ [] → misfits (env_of old.heap ns) operand p ≡ []
-    → (cx : Interner) (q : Part) → Builds (env_of old.heap ns) ns old (state cx) p (Ok q) → (name : Text) (names : List Named) → names ≡ ns ++ (name, q) ∷ [] → AreTerms (heap cx) names
-let_terms old ns terms p formed known fits cx q b name names pushed = subst (AreTerms (heap cx)) (sym pushed)
-    (terms_push (heap cx) ns (name, q) (terms_later old.heap (heap cx) b.makes.grows ns terms) (is_term old.heap ns terms p formed known fits old cx q b))
+pub let_terms : (h : Heap Part) (ns : List Named) → AreTerms h ns → (name : Text) (q : Part) → IsTerm h q → (names : List Named) → names ≡ ns ++ (name, q) ∷ [] → AreTerms h names
+let_terms h ns terms name q term names pushed = subst (AreTerms h) (sym pushed) (terms_push h ns (name, q) terms term)
 
 -- ---- `same`
 
@@ -264,7 +258,7 @@ module _ (limits : Limits) (old : State) (is : old.limits ≡ limits) (held : Li
     (one_sort : are_of_one_sort (sort_of_phrase (env_of old.heap ns) p) (sort_of_phrase (env_of old.heap ns) q) ≡ true) where
   -- the trees of both
   trees_known : (t u : Term) → tree_in (env_of old.heap ns) p ≡ Some t → tree_in (env_of old.heap ns) q ≡ Some u
-      → HasTrees (capped limits) (Same p q) (left_by old.heap ns held) (Same t u) (t ∷ u ∷ []) []
+      → HasTrees (capped limits) (Same p q) (left_by old.heap ns held) (Same t u) (t ∷ u ∷ [])
   trees_known t u tree_p tree_q = record {
     known = (λ i. known_p i ++ known_q i);
     fits = (λ i. fits_p i ++ fits_q i ++ unless (one_sort i) cause.WrongSort);
@@ -277,12 +271,12 @@ module _ (limits : Limits) (old : State) (is : old.limits ≡ limits) (held : Li
   pub first_refused : (mid : State) (e : TermError) (c : Cause) (text : Text) (now : Heap Part) → Builds (env_of old.heap ns) ns old mid p (Err e) → c ≡ cause_of e → AnswersForm (capped limits) (Some (Same p q)) (left_by old.heap ns held) text text now ns (Err c)
   first_refused mid e c text now b of =
       let other = planted old.heap ns q (operand_is old.heap ns terms q formed_q known_q fits_q).0 in
-      refused limits old is held just ns (Same p q) (Same b.made other.0) (b.made ∷ other.0 ∷ []) []
+      refused limits old is held just ns (Same p q) (Same b.made other.0) (b.made ∷ other.0 ∷ [])
       (trees_known b.made other.0 b.tree other.1) {T = Part} mid e c text now ns
       (makes_err old mid (parts b.made) (parts b.made ++ (parts other.0 ++ [])) e b.makes (part_left (parts b.made) (parts other.0 ++ []))) of
 
   module _ {mid new : State} {x : Part} {r : Result Part TermError} (b : Builds (env_of old.heap ns) ns old mid p (Ok x)) (d : Builds (env_of old.heap ns) ns mid new q r) where
-    same_trees : HasTrees (capped limits) (Same p q) (left_by old.heap ns held) (Same b.made d.made) (b.made ∷ d.made ∷ []) []
+    same_trees : HasTrees (capped limits) (Same p q) (left_by old.heap ns held) (Same b.made d.made) (b.made ∷ d.made ∷ [])
     same_trees = trees_known b.made d.made b.tree d.tree
 
     both_make : Makes old new (flat_map parts (b.made ∷ d.made ∷ [])) r
@@ -291,7 +285,7 @@ module _ (limits : Limits) (old : State) (is : old.limits ≡ limits) (held : Li
   -- the second is not made
   pub second_refused : (mid new : State) (x : Part) (e : TermError) (c : Cause) (text : Text) (now : Heap Part) → Builds (env_of old.heap ns) ns old mid p (Ok x) → Builds (env_of old.heap ns) ns mid new q (Err e) → c ≡ cause_of e
       → AnswersForm (capped limits) (Some (Same p q)) (left_by old.heap ns held) text text now ns (Err c)
-  second_refused mid new x e c text now b d of = refused limits old is held just ns (Same p q) (Same b.made d.made) (b.made ∷ d.made ∷ []) [] (same_trees b d) new e c text now ns (both_make b d) of
+  second_refused mid new x e c text now b d of = refused limits old is held just ns (Same p q) (Same b.made d.made) (b.made ∷ d.made ∷ []) (same_trees b d) new e c text now ns (both_make b d) of
 
   module _ (mid : State) (cx : Interner) (x y : Part) (b : Builds (env_of old.heap ns) ns old mid p (Ok x)) (d : Builds (env_of old.heap ns) ns mid (state cx) q (Ok y)) where
     -- the first stands for its term still
@@ -314,13 +308,13 @@ module _ (limits : Limits) (old : State) (is : old.limits ≡ limits) (held : Li
     -- one of them has a variable that its binder doesn't list
     pub same_unlisted : (text : Text) (one other : Bool) → are_listed [] (tree_of (heap cx) x) ≡ one → are_listed [] (tree_of (heap cx) y) ≡ other → (one && (other && true)) ≡ false
         → AnswersForm (capped limits) (Some (Same p q)) (left_by old.heap ns held) text text (heap cx) ns (Err code.Unlisted)
-    same_unlisted text one other first second some = unlisted limits old is held just ns (Same p q) (Same b.made d.made) (b.made ∷ d.made ∷ []) [] (same_trees b d) cx y (both_make b d) both_low text ns (both_listed one other first second ∙ some)
+    same_unlisted text one other first second some = unlisted limits old is held just ns (Same p q) (Same b.made d.made) (b.made ∷ d.made ∷ []) (same_trees b d) cx y (both_make b d) both_low text ns (both_listed one other first second ∙ some)
 
     -- both are made, and are the same term exactly where they are one part
     pub same_answered : (before line after : Text) → are_listed [] (tree_of (heap cx) x) ≡ true → are_listed [] (tree_of (heap cx) y) ≡ true → YesOrNo (x ≡ y) line → after ≡ before ++ line
         → AnswersForm (capped limits) (Some (Same p q)) (left_by old.heap ns held) before after (heap cx) ns (Ok tt)
     same_answered before line after listed_x listed_y says pushed =
         let grows = Grows-trans old.heap mid.heap (heap cx) b.makes.grows d.makes.grows in
-        answered limits old is held just ns (Same p q) (Same b.made d.made) (b.made ∷ d.made ∷ []) [] (same_trees b d) cx y (both_make b d) both_low before after ns (both_listed true true listed_x listed_y) (omega arith)
+        answered limits old is held just ns (Same p q) (Same b.made d.made) (b.made ∷ d.made ∷ []) (same_trees b d) cx y (both_make b d) both_low before after ns (both_listed true true listed_x listed_y)
         (pushed ∙ ap (λ w. before ++ w) (yes_or_no_is b.made d.made line says (λ e. sym first_stands ∙ ap (tree_of (heap cx)) e ∙ d.stands) (λ e. tree_of-injective (heap cx) cx.store.sound x y first_live d.live (first_stands ∙ e ∙ sym d.stands))))
         (sym (env_later old.heap (heap cx) grows ns terms))

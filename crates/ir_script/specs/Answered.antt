@@ -1,11 +1,12 @@
 -- What a contract says of an answer.
-use Rattle.std.specs.Prelude.{◌≡◌, ℕ, ◌⊎◌, List, [], ◌∷◌, ◌++◌, Option, None, Some, Result, OnOk, IfErr, codes}
+use Rattle.std.specs.Prelude.{◌≡◌, ℕ, ◌⊎◌, List, [], ◌∷◌, ◌++◌, Option, None, Some, Result, OnOk, IfErr, IfOk, codes}
 use Rattle.ir_core.specs.declared.handles.Part.{Part}
 use Rattle.ir_laws.specs.Answer.{Answer, State, Writes, Meets, Allows, Fault, after_line, resolved, text_of_line}
 use Rattle.ir_laws.specs.Cause as cause
 use Rattle.ir_laws.specs.Causes.{causes_of}
-use Rattle.ir_laws.specs.Form.{Form}
-use Rattle.ir_laws.specs.Heap.{Heap}
+use Rattle.ir_laws.specs.Environment.{tree_of as tree_in}
+use Rattle.ir_laws.specs.Form.{Form, Flags}
+use Rattle.ir_laws.specs.Heap.{Heap, tree_of}
 use Rattle.ir_laws.specs.Held.{HoldsJust}
 use Rattle.ir_laws.specs.Limits.{Limits}
 use Rattle.ir_laws.specs.Phrase.{Phrase}
@@ -38,6 +39,14 @@ pub record AnswersForm (limits : Limits) (form : Option (Form Phrase)) (s : Stat
   pub left : OnOk r (HoldsJust now (left_after limits form s).parts)
   pub names_are : OnOk r ((left_after limits form s).environment ≡ env_of now names)
   pub fault : IfErr r (λ c. (cause_seen c ≡ None) ⊎ Says c (causes_met limits form s))
+
+-- What the making of a line's only term says, after lines that left this. It meets the causes of `flags`, which does no more with its term than to write what it holds. Want of memory has no clause
+pub record MakesTerm (limits : Limits) (p : Phrase) (s : State) (now : Heap Part) (names : List Named) (r : Result Part Cause) : Type 0 where
+  pub clear : OnOk r (causes_met limits (Some (Flags p)) s ≡ [])
+  pub tree : IfOk r (λ q. tree_in s.environment p ≡ Some (tree_of now q))
+  pub left : OnOk r (HoldsJust now (left_after limits (Some (Flags p)) s).parts)
+  pub names_are : OnOk r (s.environment ≡ env_of now names)
+  pub fault : IfErr r (λ c. (cause_seen c ≡ None) ⊎ Says c (causes_met limits (Some (Flags p)) s))
 
 -- the line that says yes exactly where this holds
 abbrev pub YesOrNo : Type 0 → Text → Type 0

@@ -5,9 +5,9 @@ ghost use Rattle.ir_laws.specs.Formed.{is_formed};
 ghost use Rattle.ir_laws.specs.Held.{HoldsJust};
 ghost use Rattle.ir_laws.specs.Limits.{capped};
 ghost use Rattle.ir_laws.specs.Tree.{Term};
-ghost use Rattle.ir_script.specs.Answered.{AllowsFault, AnswersForm, YesOrNo, left_by, parts_left};
+ghost use Rattle.ir_script.specs.Answered.{AllowsFault, AnswersForm, MakesTerm, YesOrNo, left_by, parts_left};
 ghost use Rattle.ir_script.specs.Phrases.{phrase_seen};
-ghost use Rattle.ir_script.specs.Scope.{AreTerms, names_in};
+ghost use Rattle.ir_script.specs.Scope.{AreTerms, IsTerm, names_in};
 ghost use Rattle.ir_table.specs.Fits.{part_sort};
 ghost use Rattle.ir_table.specs.Interner.{heap, state};
 ghost use Rattle.ir_table.specs.Limits.{limits_seen};
@@ -55,6 +55,33 @@ fn term_of(part: Part) -> AnyTerm
     }
 }
 
+// The part of a line's only term, whose names, sorts, limits and variables meet no cause.
+fn term_part(
+    alloc: Global,
+    cx: &mut Interner,
+    scope: &Scope,
+    phrase: &Phrase,
+) -> Result<Part, Cause>
+    requires formed { is_formed (phrase_seen phrase.now) ≡ true }
+    requires terms { AreTerms (heap cx.old) (names_in scope.now) }
+    ensures answers { (held : List Term) → HoldsJust (heap cx.old) held → MakesTerm (capped (state cx.old).limits) (phrase_seen phrase.now) (left_by (heap cx.old) (names_in scope.now) held) (heap cx.new) (names_in scope.now) result }
+    ensures term { IfOk result (λ q. IsTerm (heap cx.new) q) }
+    ensures terms { OnOk result (AreTerms (heap cx.new) (names_in scope.now)) }
+    ensures limits { (state cx.new).limits ≡ (state cx.old).limits }
+{
+    if unknown_name(scope, phrase) {
+        return Err(Cause::Unknown);
+    }
+    if let Some(cause) = misfit(scope, phrase) {
+        return Err(cause);
+    }
+    let part = build(alloc, cx, scope, phrase)?;
+    if !variables_are_listed(alloc, cx, part)? {
+        return Err(Cause::Unlisted);
+    }
+    Ok(part)
+}
+
 // `let`: the name stands for the term from here on.
 fn declare(
     alloc: Global,
@@ -72,19 +99,7 @@ fn declare(
     if scope.find(name.as_bytes()).is_some() {
         return Err(Cause::Duplicate);
     }
-    if unknown_name(scope, phrase) {
-        return Err(Cause::Unknown);
-    }
-    if let Some(cause) = misfit(scope, phrase) {
-        return Err(cause);
-    }
-    let part = match build(alloc, cx, scope, phrase) {
-        Ok(part) => part,
-        Err(error) => return Err(Cause::from(error)),
-    };
-    if !variables_are_listed(alloc, cx, part)? {
-        return Err(Cause::Unlisted);
-    }
+    let part = term_part(alloc, cx, scope, phrase)?;
     scope.declare(alloc, name.as_bytes(), part)?;
     Ok(())
 }
@@ -101,23 +116,11 @@ fn print(
     requires formed { is_formed (phrase_seen phrase.now) ≡ true }
     requires limits { (state cx.old).limits ≡ limits_seen limits.now }
     requires terms { AreTerms (heap cx.old) (names_in scope.now) }
-    ensures answers { (held : List Term) → HoldsJust (heap cx.old) held → AnswersForm (capped (limits_seen limits.now)) (Some (Print (phrase_seen phrase.now))) (left_by (heap cx.old) (names_in scope.now) held) out.old out.new (heap cx.new) (names_in scope.now) result }
+    ensures answers { (held : List Term) → HoldsJust (heap cx.old) held → AnswersForm (capped (state cx.old).limits) (Some (Print (phrase_seen phrase.now))) (left_by (heap cx.old) (names_in scope.now) held) out.old out.new (heap cx.new) (names_in scope.now) result }
     ensures terms { OnOk result (AreTerms (heap cx.new) (names_in scope.now)) }
     ensures limits { (state cx.new).limits ≡ (state cx.old).limits }
 {
-    if unknown_name(scope, phrase) {
-        return Err(Cause::Unknown);
-    }
-    if let Some(cause) = misfit(scope, phrase) {
-        return Err(cause);
-    }
-    let part = match build(alloc, cx, scope, phrase) {
-        Ok(part) => part,
-        Err(error) => return Err(Cause::from(error)),
-    };
-    if !variables_are_listed(alloc, cx, part)? {
-        return Err(Cause::Unlisted);
-    }
+    let part = term_part(alloc, cx, scope, phrase)?;
     if part.size(cx) > limits.size.min(LARGEST) {
         return Err(Cause::TooLarge);
     }
@@ -160,14 +163,8 @@ fn same(
     if !have_one_sort(scope, first, second) {
         return Err(Cause::Sort);
     }
-    let one = match build(alloc, cx, scope, first) {
-        Ok(part) => part,
-        Err(error) => return Err(Cause::from(error)),
-    };
-    let other = match build(alloc, cx, scope, second) {
-        Ok(part) => part,
-        Err(error) => return Err(Cause::from(error)),
-    };
+    let one = build(alloc, cx, scope, first)?;
+    let other = build(alloc, cx, scope, second)?;
     if !variables_are_listed(alloc, cx, one)? {
         return Err(Cause::Unlisted);
     }
@@ -192,19 +189,7 @@ fn flags(
     ensures terms { OnOk result (AreTerms (heap cx.new) (names_in scope.now)) }
     ensures limits { (state cx.new).limits ≡ (state cx.old).limits }
 {
-    if unknown_name(scope, phrase) {
-        return Err(Cause::Unknown);
-    }
-    if let Some(cause) = misfit(scope, phrase) {
-        return Err(cause);
-    }
-    let part = match build(alloc, cx, scope, phrase) {
-        Ok(part) => part,
-        Err(error) => return Err(Cause::from(error)),
-    };
-    if !variables_are_listed(alloc, cx, part)? {
-        return Err(Cause::Unlisted);
-    }
+    let part = term_part(alloc, cx, scope, phrase)?;
     write_flags(alloc, cx, part, out)?;
     Ok(())
 }
