@@ -2,15 +2,16 @@
 ghost use Rattle.ir_core.specs.declared.handles.Part.TheVariants as part;
 ghost use Rattle.ir_laws.specs.Heap.{IsLive};
 ghost use Rattle.ir_table.specs.Interner.{heap};
+ghost use Rattle.std.specs.Prelude.{IfOk};
 
 use crate::{
     Cached, Exact, Intern, InternList, Interner, ListKey, ListTable, Table, inputs, output,
 };
 use bitflags::Flags;
 use ir_core::{
-    BoundRegion, BoundRegionKind, BoundVar, BoundVarIndexKind, BoundVarKind, BoundVarKinds, Const,
-    ConstKind, DebruijnIndex, ErrorGuaranteed, IntTy, Limits, Mutability, R, Region, RegionKind,
-    TermError, Ty, TyKind, TypeFlags, Tys, Variance, VariancesOf,
+    Binder, BoundRegion, BoundRegionKind, BoundVar, BoundVarIndexKind, BoundVarKind, BoundVarKinds,
+    Const, ConstKind, DebruijnIndex, ErrorGuaranteed, IntTy, Limits, Mutability, R, Region,
+    RegionKind, TermError, Ty, TyKind, TypeFlags, Tys, Variance, VariancesOf,
 };
 use smallvec::SmallVec;
 use std::alloc::{AllocError, Global};
@@ -84,15 +85,28 @@ fn a_key_of_eight_items_takes_no_memory(rt: HostRuntime) {
     assert_eq!(rt; ListKey::as_slice(&key), &nine[..8]);
 }
 
+/// The limits of the program.
+pub(crate) const LIMITS: Limits = Limits {
+    index: 65_535,
+    number: 65_535,
+    height: 512,
+    nodes: 1_000_000,
+    size: 1_000_000,
+};
+
 /// The limits that leave room for so many parts.
 fn room_for(nodes: u64) -> Limits {
-    Limits {
-        index: 65_535,
-        number: 65_535,
-        height: 512,
-        nodes,
-        size: 1_000_000,
-    }
+    Limits { nodes, ..LIMITS }
+}
+
+/// The type under an unsafe binder of the variables.
+pub(crate) fn under_binder(cx: &mut Interner, variables: &[BoundVarKind], inner: Ty) -> R<Ty>
+    requires { IsLive (heap cx.old) (part.Ty inner) }
+    ensures { IfOk result (λ ty. IsLive (heap cx.new) (part.Ty ty)) }
+{
+    let variables = BoundVarKinds::new_from_slice(cx, variables)?;
+    let binder = Binder::bind_with_vars(inner, variables);
+    Ty::new(cx, TyKind::UnsafeBinder(binder))
 }
 
 #[test]

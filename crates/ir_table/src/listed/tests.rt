@@ -4,21 +4,14 @@ ghost use Rattle.ir_laws.specs.Heap.{IsLive};
 ghost use Rattle.ir_table.specs.Interner.{heap};
 ghost use Rattle.std.specs.Prelude.{IfOk};
 
-use crate::{Intern, InternList, Interner, variables_are_listed};
+use crate::tests::{LIMITS, under_binder};
+use crate::{Intern, Interner, variables_are_listed};
 use ir_core::{
-    Binder, BoundRegionKind, BoundTy, BoundTyKind, BoundVar, BoundVarIndexKind, BoundVarKind,
-    BoundVarKinds, DebruijnIndex, Limits, Part, R, Ty, TyKind,
+    BoundRegionKind, BoundTy, BoundTyKind, BoundVar, BoundVarIndexKind, BoundVarKind,
+    DebruijnIndex, Part, R, Ty, TyKind,
 };
 use std::alloc::Global;
 use std::test::Fail;
-
-const LIMITS: Limits = Limits {
-    index: 65_535,
-    number: 65_535,
-    height: 512,
-    nodes: 1_000_000,
-    size: 1_000_000,
-};
 
 // A type that is a variable without a name.
 fn variable(cx: &mut Interner, index: u32, number: u32) -> R<Ty>
@@ -30,16 +23,6 @@ fn variable(cx: &mut Interner, index: u32, number: u32) -> R<Ty>
         kind: BoundTyKind::Anon,
     };
     Ty::new(cx, TyKind::Bound(index, bound))
-}
-
-// The type under an unsafe binder of the variables.
-fn under_binder(cx: &mut Interner, variables: &[BoundVarKind], inner: Ty) -> R<Ty>
-    requires { IsLive (heap cx.old) (part.Ty inner) }
-    ensures { IfOk result (λ ty. IsLive (heap cx.new) (part.Ty ty)) }
-{
-    let variables = BoundVarKinds::new_from_slice(cx, variables)?;
-    let binder = Binder::bind_with_vars(inner, variables);
-    Ty::new(cx, TyKind::UnsafeBinder(binder))
 }
 
 // What is answered of a variable below an inner binder of these variables and an outer one of a region.

@@ -6,23 +6,16 @@ ghost use Rattle.ir_table.specs.Kinds.{tys_kids};
 ghost use Rattle.ir_table.specs.Spelled.{part_of};
 ghost use Rattle.std.specs.Prelude.{IfOk};
 
+use crate::tests::{LIMITS, under_binder};
 use crate::{Intern, InternList, Interner, Names, NoNames, spell};
 use ir_core::{
     AnyTerm, Binder, BoundConst, BoundRegion, BoundRegionKind, BoundTy, BoundTyKind, BoundVar,
     BoundVarIndexKind, BoundVarKind, BoundVarKinds, Const, ConstId, ConstKind, DebruijnIndex,
-    FnAbi, FnHeader, FnSigTys, Limits, Mutability, R, Region, RegionKind, Safety, SolverDefId,
-    Text, Ty, TyKind, Tys, UintTy,
+    FnAbi, FnHeader, FnSigTys, Mutability, R, Region, RegionKind, Safety, SolverDefId, Text, Ty,
+    TyKind, Tys, UintTy,
 };
 use std::alloc::Global;
 use std::test::Fail;
-
-const LIMITS: Limits = Limits {
-    index: 65_535,
-    number: 65_535,
-    height: 512,
-    nodes: 1_000_000,
-    size: 1_000_000,
-};
 
 // A reference to the type.
 fn reference(cx: &mut Interner, region: RegionKind, inner: Ty, mutability: Mutability) -> R<Ty>
@@ -41,16 +34,6 @@ fn byte_and(cx: &mut Interner, second: Ty) -> R<Ty>
     let byte = Ty::new(cx, TyKind::Uint(UintTy::U8))?;
     let tys = Tys::new_from_slice(cx, &[byte, second])?;
     Ty::new(cx, TyKind::Tuple(tys))
-}
-
-// The type under an unsafe binder of the variables.
-fn under_binder(cx: &mut Interner, variables: &[BoundVarKind], inner: Ty) -> R<Ty>
-    requires { IsLive (heap cx.old) (part.Ty inner) }
-    ensures { IfOk result (λ ty. IsLive (heap cx.new) (part.Ty ty)) }
-{
-    let variables = BoundVarKinds::new_from_slice(cx, variables)?;
-    let binder = Binder::bind_with_vars(inner, variables);
-    Ty::new(cx, TyKind::UnsafeBinder(binder))
 }
 
 // The pointer to functions of these types, under a binder without variables.
