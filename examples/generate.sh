@@ -1,5 +1,5 @@
 #!/usr/bin/env bash
-# Writes a long script: `generate.sh lets N` one of N `let` lines of distinct small terms, `generate.sh sames N` one of N `same` lines over forty terms, each of which holds the one before twice.
+# Writes a long script: `generate.sh lets N` one of N `let` lines of distinct small terms, `generate.sh sames N` one of N `same` lines over forty terms, each of which holds the one before twice. `generate.sh binders N` and `generate.sh doubles N` write N lines whose terms hold the one before twice, below different binders: the first below one binder and beside it, the second below two.
 set -eu
 case "${1:-}" in
 lets)
@@ -19,8 +19,22 @@ sames)
         for (i = 1; i <= n; i++) print "same A" 1 + i % 40 " A" 1 + (7 * i) % 40
     }'
     ;;
+binders)
+    awk -v n="$2" 'BEGIN {
+        print "let B0 (tuple ((var 0 0 t) (var 1 0 t)))"
+        for (i = 1; i <= n; i++) print "let B" i " (tuple (B" i - 1 " (unsafe (for t) B" i - 1 ") (var " i " 0 t)))"
+        print "flags B" n
+    }'
+    ;;
+doubles)
+    awk -v n="$2" 'BEGIN {
+        print "let D0 (var 99 0 t)"
+        for (i = 1; i <= n; i++) print "let D" i " (tuple ((unsafe (for t) D" i - 1 ") (unsafe (for r) D" i - 1 ")))"
+        print "flags D" n
+    }'
+    ;;
 *)
-    echo "usage: generate.sh lets|sames N" >&2
+    echo "usage: generate.sh lets|sames|binders|doubles N" >&2
     exit 2
     ;;
 esac

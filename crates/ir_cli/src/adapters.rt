@@ -70,6 +70,8 @@ impl<T: Write> Sink for StdoutSink<T> {
 
     ghost faults = { λ s. s.faults };
 
+    ghost empty_writes = { λ _. 0 };
+
     fn write(&mut self, bytes: &[u8]) -> Result<usize, Failed> {
         let faults = self.faults;
         let Some(taken) = push(&mut self.writer, bytes) else {

@@ -1,7 +1,7 @@
 //! Reading a source to its end.
 ghost use Rattle.std.specs.Prelude.{◌≡◌, ◌+◌, ◌<◌, ◌≤◌, ◌++◌, length, take, Err, IfOk, OnOk, vec_len};
 ghost use Rattle.ir_core.specs.Streams.{Counts, Rose, Reads};
-ghost use Rattle.ir_cli.specs.Reading.{ReadsAll, IsLonger, IsWithin};
+ghost use Rattle.ir_cli.specs.Reading.{GivesAtMost, ReadsAll, IsLonger, IsWithin};
 ghost use Rattle.ir_cli.specs.declared.reading.ReadEnd.TheVariants.{Fault, Memory};
 
 use ir_core::{Failed, Source};
@@ -40,7 +40,7 @@ impl From<AllocError> for ReadEnd {
     }
 }
 
-/// Reads the source to its end, a piece at a time. It takes no more than 16,777,217 bytes from it, the last of which says that there are too many.
+/// Reads the source to its end, a piece at a time. However it ends, it takes no more than 16,777,217 bytes from it, the last of which says that there are too many.
 pub fn read_all<S: Source>(alloc: Global, source: &mut S) -> Result<Vec<u8>, ReadEnd>
     ensures counts { S.faults source.old ≤ S.faults source.new }
     ensures ok { IfOk result (λ v. ReadsAll (S.left source.old) (S.left source.new) v.items) }
@@ -48,6 +48,7 @@ pub fn read_all<S: Source>(alloc: Global, source: &mut S) -> Result<Vec<u8>, Rea
     ensures len { IfOk result (λ v. vec_len v ≤ 16777216) }
     ensures fault { result ≡ Err ReadEnd.Fault → Rose (S.faults source.old) (S.faults source.new) }
     ensures too_long { result ≡ Err ReadEnd.TooLong → IsLonger (S.left source.old) 16777216 }
+    ensures given { GivesAtMost 16777217 (S.left source.old) (S.left source.new) }
 {
     let mut piece = zeros(alloc, PIECE_LEN)?;
     read_pieces(alloc, source, piece.as_mut_slice())
@@ -73,6 +74,7 @@ fn read_pieces<S: Source>(
     ensures len { IfOk result (λ v. vec_len v ≤ 16777216) }
     ensures fault { result ≡ Err ReadEnd.Fault → Rose (S.faults source.old) (S.faults source.new) }
     ensures too_long { result ≡ Err ReadEnd.TooLong → IsLonger (S.left source.old) 16777216 }
+    ensures given { GivesAtMost 16777217 (S.left source.old) (S.left source.new) }
 {
     let mut bytes = Vec::new(alloc);
     while bytes.len() <= MOST_BYTES {
@@ -95,6 +97,7 @@ fn append_piece<S: Source>(
     ensures items { IfOk result (λ n. bytes.new.items ≡ bytes.old.items ++ take n piece.new) }
     ensures len { IfOk result (λ n. vec_len bytes.new ≡ vec_len bytes.old + n) }
     ensures fault { result ≡ Err ReadEnd.Fault → Rose (S.faults source.old) (S.faults source.new) }
+    ensures given { GivesAtMost (length piece.old) (S.left source.old) (S.left source.new) }
     ensures not_long { result ≡ Err ReadEnd.TooLong → ⊥ }
 {
     let taken = source.read(piece)?;
@@ -113,14 +116,8 @@ mod tests {
         let mut source = SureSource::new(rt.alloc(), b"one, two")?;
         let bytes = read_all(rt.alloc(), &mut source)?;
         assert_eq!(rt; bytes.as_slice(), b"one, two".as_slice());
-        Ok(())
-    }
-
-    #[test]
-    fn reads_piece_by_piece(rt: HostRuntime) -> Result<(), Fail> {
         let mut source = SureSource::new(rt.alloc(), b"one, two")?;
-        let mut piece = [0; 3];
-        let bytes = read_pieces(rt.alloc(), &mut source, &mut piece)?;
+        let bytes = read_pieces(rt.alloc(), &mut source, &mut [0; 3])?;
         assert_eq!(rt; bytes.as_slice(), b"one, two".as_slice());
         Ok(())
     }

@@ -1,5 +1,5 @@
 //! The program, over any source and sink.
-ghost use Rattle.ir_cli.specs.Reading.{IsLonger, IsWithin};
+ghost use Rattle.ir_cli.specs.Reading.{GivesAtMost, IsLonger, IsWithin};
 ghost use Rattle.ir_cli.specs.Run.{HasValid, HoldsTerms, IsAnswered, IsCutShort, IsRefused, fault_text};
 ghost use Rattle.ir_core.specs.Streams.{HoldsFront, Rose};
 ghost use Rattle.ir_script.specs.Answered.{AllowsFault};
@@ -79,6 +79,7 @@ fn refuse<K: Sink>(alloc: Global, sink: &mut K, error: ScriptError) -> Status
     ensures fault { result ≡ Status.WriteFault → Rose (K.faults sink.old) (K.faults sink.new) }
     ensures front { result ≡ Status.WriteFault → (error.cause ≢ Cause.Memory) × HoldsFront (K.held sink.old) (K.held sink.new) (fault_text error) }
     ensures kept { result ≡ Status.Memory → K.held sink.new ≡ K.held sink.old }
+    ensures whole { K.empty_writes sink.new ≡ K.empty_writes sink.old }
 {
     if error.cause == Cause::Memory {
         return Status::Memory;
@@ -95,27 +96,29 @@ fn refuse<K: Sink>(alloc: Global, sink: &mut K, error: ScriptError) -> Status
 /// Reads a script from the source, and writes what it answers to the sink: all that its commands write, or the line of its first fault. There may be no words.
 pub fn run<S: Source, K: Sink>(alloc: Global, words: &[Text], source: &mut S, sink: &mut K) -> Ended
     // Done: the whole script was read, and its answer written. Refused: the same with its first fault.
-    ensures done { result.status ≡ Status.Done → IsAnswered LIMITS (S.left source.old) (S.left source.new) (K.held sink.old) (K.held sink.new) }
-    ensures refused { result.status ≡ Status.Refused → IsRefused LIMITS (S.left source.old) (S.left source.new) (K.held sink.old) (K.held sink.new) }
+    ensures done { result.status ≡ Status.Done → IsAnswered (S.left source.old) (S.left source.new) (K.held sink.old) (K.held sink.new) }
+    ensures refused { result.status ≡ Status.Refused → IsRefused (S.left source.old) (S.left source.new) (K.held sink.old) (K.held sink.new) }
 
     // Words: exactly where there are some, and then nothing is read or written.
     ensures words { (result.status ≡ Status.Words) ↔ (0 < length words.now) }
     ensures untouched { result.status ≡ Status.Words → (source.new ≡ source.old) × (sink.new ≡ sink.old) }
 
-    // The other ends, each by its cause. A write fault may leave a front of what was to be written.
+    // The other ends, each by its cause. A write fault may leave a front of what was to be written. However a run ends, at most 16,777,217 bytes were taken, and no empty piece was written.
     ensures read_fault { result.status ≡ Status.ReadFault → Rose (S.faults source.old) (S.faults source.new) }
     ensures write_fault { result.status ≡ Status.WriteFault → Rose (K.faults sink.old) (K.faults sink.new) }
-    ensures cut_short { result.status ≡ Status.WriteFault → IsCutShort LIMITS (S.left source.old) (S.left source.new) (K.held sink.old) (K.held sink.new) }
+    ensures cut_short { result.status ≡ Status.WriteFault → IsCutShort (S.left source.old) (S.left source.new) (K.held sink.old) (K.held sink.new) }
     ensures too_long { result.status ≡ Status.TooLong → IsLonger (S.left source.old) 16777216 }
+    ensures given { GivesAtMost 16777217 (S.left source.old) (S.left source.new) }
     ensures within { (result.status ≡ Status.Done) ⊎ ((result.status ≡ Status.Refused) ⊎ (result.status ≡ Status.WriteFault)) → IsWithin (S.left source.old) 16777216 }
+    ensures whole { K.empty_writes sink.new ≡ K.empty_writes sink.old }
     ensures unwritten { (result.status ≡ Status.ReadFault) ⊎ ((result.status ≡ Status.Memory) ⊎ (result.status ≡ Status.TooLong)) → K.held sink.new ≡ K.held sink.old }
 
     // A valid script that is not too long is answered, or memory is wanted, where no call on source and sink fails.
-    ensures complete { length words.now ≡ 0 → HasValid LIMITS 16777216 (S.left source.old) → (Rose (S.faults source.old) (S.faults source.new) → ⊥) → (Rose (K.faults sink.old) (K.faults sink.new) → ⊥) → (result.status ≡ Status.Done) ⊎ (result.status ≡ Status.Memory) }
+    ensures complete { length words.now ≡ 0 → HasValid 16777216 (S.left source.old) → (Rose (S.faults source.old) (S.faults source.new) → ⊥) → (Rose (K.faults sink.old) (K.faults sink.new) → ⊥) → (result.status ≡ Status.Done) ⊎ (result.status ≡ Status.Memory) }
 
     // The interner is handed out exactly where the answer was written.
     ensures interner { IsSome result.cx ↔ (result.status ≡ Status.Done) }
-    ensures terms { IfSome result.cx (HoldsTerms LIMITS (S.left source.old)) }
+    ensures terms { IfSome result.cx (HoldsTerms (S.left source.old)) }
 {
     if !words.is_empty() {
         return without_answer(Status::Words);

@@ -5,12 +5,13 @@ ghost use Rattle.ir_core.specs.Streams.{Rose, HoldsFront};
 
 use ir_core::{Failed, Sink};
 
-/// Writes all of the bytes. A sink that fails may have taken a front of them.
+/// Writes all of the bytes, and never an empty piece. A sink that fails may have taken a front of them.
 pub fn write_all<K: Sink>(sink: &mut K, bytes: &[u8]) -> Result<(), Failed>
     ensures counts { K.faults sink.old ≤ K.faults sink.new }
     ensures ok { OnOk result (K.held sink.new ≡ append_known (K.held sink.old) bytes.now) }
     ensures failed { OnErr result (Rose (K.faults sink.old) (K.faults sink.new)) }
     ensures front { OnErr result (HoldsFront (K.held sink.old) (K.held sink.new) bytes.now) }
+    ensures whole { K.empty_writes sink.new ≡ K.empty_writes sink.old }
 {
     let mut done = 0;
     while done < bytes.len() {

@@ -77,59 +77,26 @@ impl<T> Binder<Option<T>> {
 #[cfg(test)]
 mod tests {
     use super::*;
-    use crate::{FnHeader, FnSigTys, Ty};
-    use std::collections::HashSet;
-    use std::test::Fail;
+    use crate::Ty;
 
-    const VARIABLES: BoundVarKinds = BoundVarKinds { position: 1 };
+    const VARIABLES: BoundVarKinds = BoundVarKinds { index: 1 };
 
-    /// A kind with binders in it, which has all that a kind needs.
-    #[derive(Clone, Copy, PartialEq, Eq, Hash, Debug)]
-    enum Kind {
-        FnPtr(Binder<FnSigTys>, FnHeader),
-        UnsafeBinder(Binder<Ty>),
-    }
+    const TYPE: Ty = Ty { index: 7 };
 
     #[test]
     fn binders_keep_their_variables(rt: HostRuntime) {
-        let step = 3;
-        let ty = Ty { position: 7 };
-        let binder = Binder::bind_with_vars(ty, VARIABLES);
-        assert_eq!(rt; binder.skip_binder(), ty);
+        let binder = Binder::bind_with_vars(TYPE, VARIABLES);
+        assert_eq!(rt; binder.skip_binder(), TYPE);
         assert_eq!(rt; binder.bound_vars(), VARIABLES);
-        assert_eq!(rt;
-            binder.rebind("other"),
-            Binder::bind_with_vars("other", VARIABLES)
-        );
-        assert_eq!(rt;
-            binder.map_bound(|ty| ty.position.saturating_add(step)),
-            Binder::bind_with_vars(10, VARIABLES)
-        );
-        assert_eq!(rt; *binder.as_ref().skip_binder(), ty);
+        assert_eq!(rt; binder.rebind(5), Binder::bind_with_vars(5, VARIABLES));
+        assert_eq!(rt; binder.map_bound(|ty| ty.index), binder.rebind(7));
+        assert_eq!(rt; *binder.as_ref().skip_binder(), TYPE);
         assert_eq!(rt; binder.as_ref().bound_vars(), VARIABLES);
-    }
-
-    #[test]
-    fn transpose_takes_the_option_out(rt: HostRuntime) {
-        let some = Binder::bind_with_vars(Some(5), VARIABLES);
-        assert_eq!(rt;
-            some.transpose(),
-            Some(Binder::bind_with_vars(5, VARIABLES))
-        );
-        let none: Binder<Option<u8>> = some.rebind(None);
-        assert_eq!(rt; none.transpose(), None);
-    }
-
-    #[test]
-    fn binders_are_compared_with_their_variables(rt: HostRuntime) -> Result<(), Fail> {
-        let binder = Binder::bind_with_vars(Ty { position: 7 }, VARIABLES);
-        let other = Binder::bind_with_vars(Ty { position: 7 }, BoundVarKinds { position: 2 });
-        assert_eq!(rt; binder.clone()?, binder);
+        let other = Binder::bind_with_vars(TYPE, BoundVarKinds { index: 2 });
         assert_ne!(rt; binder, other);
-        let mut kinds = HashSet::new(rt.alloc());
-        kinds.insert(Kind::UnsafeBinder(binder))?;
-        assert!(rt; kinds.contains(&Kind::UnsafeBinder(binder)));
-        assert!(rt; !kinds.contains(&Kind::UnsafeBinder(other)));
-        Ok(())
+        for option in [Some(TYPE), None] {
+            let wanted = option.map(|ty| binder.rebind(ty));
+            assert_eq!(rt; binder.rebind(option).transpose(), wanted);
+        }
     }
 }

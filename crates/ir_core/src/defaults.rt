@@ -5,7 +5,7 @@ use crate::{
 };
 
 /// The types that every interner has.
-#[derive(Clone, Copy, PartialEq, Eq, Debug)]
+#[derive(Clone, Copy, PartialEq, Eq, Hash, Debug)]
 pub struct DefaultTypes {
     pub i8: Ty,
     pub i16: Ty,
@@ -37,13 +37,13 @@ pub struct DefaultTypes {
 }
 
 /// The constants that every interner has.
-#[derive(Clone, Copy, PartialEq, Eq, Debug)]
+#[derive(Clone, Copy, PartialEq, Eq, Hash, Debug)]
 pub struct DefaultConsts {
     pub error: Const,
 }
 
 /// The regions that every interner has.
-#[derive(Clone, Copy, PartialEq, Eq, Debug)]
+#[derive(Clone, Copy, PartialEq, Eq, Hash, Debug)]
 pub struct DefaultRegions {
     pub error: Region,
     pub statik: Region,
@@ -51,7 +51,7 @@ pub struct DefaultRegions {
 }
 
 /// The empty lists.
-#[derive(Clone, Copy, PartialEq, Eq, Debug)]
+#[derive(Clone, Copy, PartialEq, Eq, Hash, Debug)]
 pub struct DefaultEmpty {
     pub tys: Tys,
     pub generic_args: GenericArgs,
@@ -64,7 +64,7 @@ pub struct DefaultEmpty {
 }
 
 /// The parts that every interner has.
-#[derive(Clone, Copy, PartialEq, Eq, Debug)]
+#[derive(Clone, Copy, PartialEq, Eq, Hash, Debug)]
 pub struct DefaultAny {
     pub types: DefaultTypes,
     pub consts: DefaultConsts,

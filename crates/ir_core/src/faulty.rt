@@ -160,6 +160,8 @@ impl Sink for MemorySink {
 
     ghost faults = { λ s. s.faults };
 
+    ghost empty_writes = { λ _. 0 };
+
     fn write(&mut self, bytes: &[u8]) -> Result<usize, Failed>
         ensures counts { Counts self.old.faults self.new.faults }
         ensures writes { IfOk result (Writes (Some self.old.held) (Some self.new.held) bytes.now) }
@@ -184,67 +186,67 @@ impl Sink for MemorySink {
 #[cfg(test)]
 mod tests {
     use super::*;
+    use crate::Text;
     use std::test::Fail;
 
-    /// What a source of five bytes says of its first two calls.
-    fn read_twice(alloc: Global, piece: usize, fails: &[u64]) -> R<[Result<usize, Failed>; 2]>
-        requires { 1 ≤ piece }
-    {
-        let mut source = MemorySource::new(alloc, b"abcde", piece, fails)?;
-        let mut into = [0; 6];
-        Ok([source.read(&mut into), source.read(&mut into)])
-    }
-
-    /// What a sink with room for four bytes says of its first two calls, which offer it three bytes each.
-    fn write_twice(alloc: Global, piece: usize, fails: &[u64]) -> R<[Result<usize, Failed>; 2]>
-        requires { 1 ≤ piece }
-    {
-        let mut sink = MemorySink::new(alloc, 4, piece, fails)?;
-        Ok([sink.write(b"abc"), sink.write(b"def")])
-    }
+    type Answer = Result<usize, Failed>;
 
     #[test]
-    fn calls_give_and_take_pieces(rt: HostRuntime) -> Result<(), Fail> {
-        assert_eq!(rt; read_twice(rt.alloc(), 1, &[])?, [Ok(1), Ok(1)]);
-        assert_eq!(rt; read_twice(rt.alloc(), 2, &[])?, [Ok(2), Ok(2)]);
-        assert_eq!(rt; read_twice(rt.alloc(), 7, &[])?, [Ok(5), Ok(0)]);
-        assert_eq!(rt;
-            read_twice(rt.alloc(), usize::MAX, &[1])?,
-            [Err(Failed), Ok(5)]
-        );
-        assert_eq!(rt; write_twice(rt.alloc(), 1, &[])?, [Ok(1), Ok(1)]);
-        assert_eq!(rt; write_twice(rt.alloc(), 2, &[])?, [Ok(2), Ok(2)]);
-        assert_eq!(rt; write_twice(rt.alloc(), 7, &[])?, [Ok(3), Ok(1)]);
-        assert_eq!(rt;
-            write_twice(rt.alloc(), usize::MAX, &[1])?,
-            [Err(Failed), Ok(3)]
-        );
+    fn sources_give_pieces_and_go_on_after_a_failure(rt: HostRuntime) -> Result<(), Fail> {
+        let rows: [(&[u8], usize, &[u64], &[Answer], &[u8]); 5] = [
+            (b"abcde", 1, &[], &[Ok(1), Ok(1)], b"ab"),
+            (b"abcde", 2, &[], &[Ok(2), Ok(2)], b"abcd"),
+            (b"abcde", 7, &[], &[Ok(5), Ok(0)], b"abcde"),
+            (b"abcde", usize::MAX, &[1], &[Err(Failed), Ok(5)], b"abcde"),
+            (b"abc", 2, &[2], &[Ok(2), Err(Failed), Ok(1), Ok(0)], b"abc"),
+        ];
+        for (bytes, piece, fails, answers, given) in rows {
+            let mut source = MemorySource::new(rt.alloc(), bytes, piece.max(1), fails)?;
+            let mut all = Text::new(rt.alloc());
+            for want in answers {
+                let mut into = [0; 6];
+                let answer = source.read(&mut into);
+                assert_eq!(rt; answer, *want);
+                all.append(&into[..answer.unwrap_or(0)])?;
+            }
+            assert_eq!(rt; all.as_bytes(), given);
+        }
         Ok(())
     }
 
     #[test]
-    fn source_goes_on_after_a_failure(rt: HostRuntime) -> Result<(), Fail> {
-        let mut source = MemorySource::new(rt.alloc(), b"abc", 2, &[2])?;
-        let mut into = [0; 3];
-        assert_eq!(rt; source.read(&mut into), Ok(2));
-        assert_eq!(rt; &into[..2], b"ab".as_slice());
-        assert_eq!(rt; source.read(&mut into), Err(Failed));
-        assert_eq!(rt; source.read(&mut into), Ok(1));
-        assert_eq!(rt; &into[..1], b"c".as_slice());
-        assert_eq!(rt; source.read(&mut into), Ok(0));
-        Ok(())
-    }
-
-    #[test]
-    fn sink_goes_on_after_a_failure(rt: HostRuntime) -> Result<(), Fail> {
-        let mut sink = MemorySink::new(rt.alloc(), 4, 7, &[2])?;
-        assert_eq!(rt; sink.write(b"ab"), Ok(2));
-        assert_eq!(rt; sink.write(b"cd"), Err(Failed));
-        assert_eq!(rt; sink.held(), b"ab".as_slice());
-        assert_eq!(rt; sink.write(b"cde"), Ok(2));
-        assert_eq!(rt; sink.write(b"e"), Err(Failed));
-        assert_eq!(rt; sink.write(b""), Ok(0));
-        assert_eq!(rt; sink.held(), b"abcd".as_slice());
+    fn sinks_take_pieces_and_go_on_after_a_failure(rt: HostRuntime) -> Result<(), Fail> {
+        let rows: [(usize, &[u64], &[(&[u8], Answer)], &[u8]); 6] = [
+            (1, &[], &[(b"abc", Ok(1)), (b"def", Ok(1))], b"ad"),
+            (2, &[], &[(b"abc", Ok(2)), (b"def", Ok(2))], b"abde"),
+            (7, &[], &[(b"abc", Ok(3)), (b"def", Ok(1))], b"abcd"),
+            (
+                usize::MAX,
+                &[1],
+                &[(b"abc", Err(Failed)), (b"def", Ok(3))],
+                b"def",
+            ),
+            (7, &[2], &[(b"ab", Ok(2)), (b"cd", Err(Failed))], b"ab"),
+            (
+                7,
+                &[2],
+                &[
+                    (b"ab", Ok(2)),
+                    (b"cd", Err(Failed)),
+                    (b"cde", Ok(2)),
+                    (b"e", Err(Failed)),
+                    (b"", Ok(0)),
+                ],
+                b"abcd",
+            ),
+        ];
+        for (piece, fails, calls, held) in rows {
+            let mut sink = MemorySink::new(rt.alloc(), 4, piece.max(1), fails)?;
+            for (bytes, want) in calls {
+                assert_eq!(rt; sink.write(bytes), *want);
+            }
+            assert_eq!(rt; sink.held(), held);
+        }
         Ok(())
     }
 }

@@ -43,7 +43,7 @@ pub enum Mutability {
 }
 
 /// Stands for an error that was reported elsewhere.
-#[derive(Clone, Copy, PartialEq, Eq, Hash, Debug)]
+#[derive(Clone, Copy, PartialEq, Eq, PartialOrd, Ord, Hash, Debug)]
 pub struct ErrorGuaranteed;
 
 /// What a type is.

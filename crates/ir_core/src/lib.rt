@@ -23,8 +23,10 @@ pub use errors::{R, TermError};
 pub use faulty::{MemorySink, MemorySource};
 pub use flags::TypeFlags;
 pub use handles::{
-    BoundExistentialPredicates, BoundVarKinds, Clauses, Const, GenericArgs, Part, PatList, Region,
-    RegionAssumptions, Ty, Tys, VariancesOf,
+    BoundExistentialPredicates, BoundVarKinds, Clauses, Const, GenericArgs, Handle, Part, PatList,
+    Region, RegionAssumptions, StoredBoundExistentialPredicates, StoredBoundVarKinds,
+    StoredClauses, StoredConst, StoredGenericArgs, StoredPatList, StoredRegion,
+    StoredRegionAssumptions, StoredTy, StoredTys, StoredVariancesOf, Ty, Tys, VariancesOf,
 };
 pub use ids::{
     AdtId, BoundVar, BuiltinDeriveImplId, ConstId, Ctor, DebruijnIndex, EnumId, EnumVariantId,

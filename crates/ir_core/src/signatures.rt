@@ -159,12 +159,12 @@ mod tests {
     /// A signature that differs in each field from that of a plain function.
     const SIGNATURE: PolyFnSig = Binder {
         value: FnSig {
-            inputs_and_output: Tys { position: 4 },
+            inputs_and_output: Tys { index: 4 },
             c_variadic: true,
             safety: Safety::Unsafe,
             abi: FnAbi::C,
         },
-        bound_vars: BoundVarKinds { position: 1 },
+        bound_vars: BoundVarKinds { index: 1 },
     };
 
     #[test]
@@ -199,7 +199,7 @@ mod tests {
         assert_eq!(rt;
             tys,
             SIGNATURE.rebind(FnSigTys {
-                inputs_and_output: Tys { position: 4 }
+                inputs_and_output: Tys { index: 4 }
             })
         );
         assert_eq!(rt;

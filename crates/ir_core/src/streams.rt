@@ -7,7 +7,7 @@ use std::alloc::Global;
 use std::marker::Model;
 
 /// A call on a stream failed.
-#[derive(Clone, Copy, PartialEq, Eq, Debug)]
+#[derive(Clone, Copy, PartialEq, Eq, Hash, Debug)]
 pub struct Failed;
 
 /// What bytes come from.
@@ -34,12 +34,16 @@ pub trait Sink {
     // How many calls failed. It stands still at its last value, 2^64 - 1.
     ghost faults: { Self → ℕ };
 
+    // How many calls were given an empty piece. A sink need not count them.
+    ghost empty_writes: { Self → ℕ };
+
     /// Takes bytes from the front of the piece, and says how many: at least one, where there is one. A call that fails may have taken some.
     fn write(&mut self, bytes: &[u8]) -> Result<usize, Failed>
         ensures counts { Counts (faults self.old) (faults self.new) }
         ensures ok { IfOk result (Writes (held self.old) (held self.new) bytes.now) }
         ensures failed { OnErr result (Rose (faults self.old) (faults self.new)) }
-        ensures front { OnErr result (HoldsFront (held self.old) (held self.new) bytes.now) };
+        ensures front { OnErr result (HoldsFront (held self.old) (held self.new) bytes.now) }
+        ensures whole { 0 < length bytes.now → empty_writes self.new ≡ empty_writes self.old };
 }
 
 /// A source in memory, which never fails.
@@ -134,6 +138,8 @@ impl Sink for SureSink {
     ghost held = { λ s. Some s.held };
 
     ghost faults = { λ s. s.faults };
+
+    ghost empty_writes = { λ _. 0 };
 
     fn write(&mut self, bytes: &[u8]) -> Result<usize, Failed>
         ensures counts { Counts self.old.faults self.new.faults }

@@ -30,10 +30,10 @@ ghost use Rattle.std.specs.Prelude.{◌≡◌, [], true, Some, Err, map as mappe
 use crate::phrases::{Field, Phrase, VariableKind};
 use crate::scope::Scope;
 use ir_core::{
-    BoundRegionKind, BoundTyKind, BoundVarKind, BoundVarKinds, Part, R, TermError, Ty, Tys,
+    BoundRegionKind, BoundTyKind, BoundVarKind, BoundVarKinds, Handle, Part, R, TermError, Ty, Tys,
 };
 use ir_laws::Word;
-use ir_table::{Handle, InternList, Interner, kind_of};
+use ir_table::{InternList, Interner, kind_of};
 use std::alloc::Global;
 
 /// The types that these parts are.
@@ -159,54 +159,4 @@ fn build_all(alloc: Global, cx: &mut Interner, scope: &Scope, kids: &[Phrase]) -
         parts.push(part)?;
     }
     Ok(parts)
-}
-
-#[cfg(test)]
-mod tests {
-    use super::*;
-    use ir_core::Limits;
-    use ir_laws::Keyword;
-    use std::test::Fail;
-
-    const LIMITS: Limits = Limits {
-        index: 9,
-        number: 9,
-        height: 9,
-        nodes: 99,
-        size: 99,
-    };
-
-    fn node(word: Word, fields: Vec<Field>, kids: Vec<Phrase>) -> Phrase
-        ensures { phrase_seen result ≡ Labelled (record { word = word; fields = mapped field_seen fields.items }) None (phrases_seen kids.items) }
-    {
-        Phrase::Labelled(word, fields, None, kids)
-    }
-
-    fn leaf(alloc: Global, word: Word) -> Phrase
-        ensures { phrase_seen result ≡ Labelled (record { word = word; fields = [] }) None NoPhrase }
-    {
-        node(word, Vec::new(alloc), Vec::new(alloc))
-    }
-
-    // Whether the part of `(tuple ((ref not static u8) bool))` is a type.
-    fn is_type(alloc: Global) -> R<bool> {
-        let fields = vec![in alloc; Field::Chosen(Keyword::Not)]?;
-        let kids = vec![in alloc; leaf(alloc, Word::StaticRegion), leaf(alloc, Word::U8Type)]?;
-        let reference = node(Word::ReferenceType, fields, kids);
-        let members = vec![in alloc; reference, leaf(alloc, Word::BoolType)]?;
-        let list = node(Word::TypeList, Vec::new(alloc), members);
-        let parts = vec![in alloc; list]?;
-        let tuple = node(Word::TupleType, Vec::new(alloc), parts);
-        let mut cx = Interner::new(alloc, LIMITS)?;
-        match build(alloc, &mut cx, &Scope::new(alloc), &tuple)? {
-            Part::Ty(_) => Ok(true),
-            _ => Ok(false),
-        }
-    }
-
-    #[test]
-    fn a_tuple_is_a_type(rt: HostRuntime) -> Result<(), Fail> {
-        assert!(rt; is_type(rt.alloc())?);
-        Ok(())
-    }
 }

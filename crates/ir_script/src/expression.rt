@@ -228,8 +228,9 @@ mod tests {
     use super::*;
     use std::test::Fail;
 
-    fn is_refused(alloc: Global, line: &[u8]) -> R<bool> {
-        Ok(expressions(alloc, line)?.is_none())
+    // How many words and groups the line has.
+    fn count(alloc: Global, line: &[u8]) -> R<Option<usize>> {
+        Ok(expressions(alloc, line)?.map(|items| items.len()))
     }
 
     fn nests(alloc: Global, depth: usize) -> R<bool> {
@@ -263,28 +264,23 @@ mod tests {
     }
 
     #[test]
-    fn a_line_of_spaces_has_none(rt: HostRuntime) -> Result<(), Fail> {
-        assert_eq!(rt; expressions(rt.alloc(), b"")?.ok_or("refused")?.len(), 0);
-        assert_eq!(rt; expressions(rt.alloc(), b"   ")?.ok_or("refused")?.len(), 0);
-        Ok(())
-    }
-
-    #[test]
-    fn other_lines_are_refused(rt: HostRuntime) -> Result<(), Fail> {
-        assert!(rt; is_refused(rt.alloc(), b")")?);
-        assert!(rt; is_refused(rt.alloc(), b"(")?);
-        assert!(rt; is_refused(rt.alloc(), b"a) (b")?);
-        assert!(rt; is_refused(rt.alloc(), b"a\tb")?);
-        assert!(rt; is_refused(rt.alloc(), b"a\r")?);
-        assert!(rt; is_refused(rt.alloc(), b"\x7f")?);
-        Ok(())
-    }
-
-    #[test]
-    fn brackets_nest_to_a_limit(rt: HostRuntime) -> Result<(), Fail> {
-        assert!(rt; nests(rt.alloc(), 256)?);
-        assert!(rt; !nests(rt.alloc(), 257)?);
-        assert!(rt; !nests(rt.alloc(), 100_000)?);
+    fn lines_of_spaces_have_none_and_others_are_refused(rt: HostRuntime) -> Result<(), Fail> {
+        let rows: [(&[u8], Option<usize>); 8] = [
+            (b"", Some(0)),
+            (b"   ", Some(0)),
+            (b")", None),
+            (b"(", None),
+            (b"a) (b", None),
+            (b"a\tb", None),
+            (b"a\r", None),
+            (b"\x7f", None),
+        ];
+        for (line, want) in rows {
+            assert_eq!(rt; count(rt.alloc(), line)?, want);
+        }
+        for (depth, want) in [(256, true), (257, false), (100_000, false)] {
+            assert_eq!(rt; nests(rt.alloc(), depth)?, want);
+        }
         Ok(())
     }
 }

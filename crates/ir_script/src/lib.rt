@@ -13,6 +13,8 @@ mod phrases;
 mod places;
 mod reader;
 mod scope;
+#[cfg(test)]
+mod tests;
 mod variables;
 mod words;
 

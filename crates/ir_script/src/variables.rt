@@ -156,12 +156,16 @@ mod tests {
 
     #[test]
     fn a_group_begins_with_for(rt: HostRuntime) -> Result<(), Fail> {
-        let alloc = rt.alloc();
-        assert_eq!(rt; bound(alloc, &[b"for"])?, Some(0));
-        assert_eq!(rt; bound(alloc, &[b"for", b"t", b"r", b"t"])?, Some(3));
-        assert_eq!(rt; bound(alloc, &[b"for", b"t", b"u8"])?, None);
-        assert_eq!(rt; bound(alloc, &[b"t"])?, None);
-        assert_eq!(rt; bound(alloc, &[])?, None);
+        let rows: [(&[&[u8]], Option<usize>); 5] = [
+            (&[b"for"], Some(0)),
+            (&[b"for", b"t", b"r", b"t"], Some(3)),
+            (&[b"for", b"t", b"u8"], None),
+            (&[b"t"], None),
+            (&[], None),
+        ];
+        for (words, want) in rows {
+            assert_eq!(rt; bound(rt.alloc(), words)?, want);
+        }
         Ok(())
     }
 }

@@ -1,6 +1,6 @@
 -- What a caller of `new` cites.
-use Rattle.std.proofs.Common.{◌≡◌, ◌≤◌, ◌∙◌, refl, ℕ, List, [], ◌∷◌, map, Option, Some, Result, Ok, Err, IsOk, subst, sym, ap, true≢false}
-use Rattle.std.specs.Iterator.{AlwaysYields, HoldsAlong, Yields}
+use Rattle.std.proofs.Common.{◌≡◌, ◌≤◌, ◌∙◌, refl, ℕ, List, [], ◌∷◌, ◌++◌, map, Option, Some, Result, Ok, Err, IsOk, inl, inr, subst, sym, ap, true≢false}
+use Rattle.std.specs.Iterator.{HoldsAlong, Yields}
 use Rattle.ir_laws.specs.Heap.{Layer, Sketch, Each, Heap, IsLive, IsSound, Grows, Holds, shape_over, forest, tree_of}
 use Rattle.ir_laws.specs.Counts.{sort_of, sort_of_label}
 use Rattle.ir_core.specs.declared.errors.TermError.{TermError}
@@ -11,6 +11,9 @@ use Rattle.ir_table.specs.declared.store.EmptyList.TheVariants as empty
 use Rattle.ir_table.specs.declared.store.Tables.{Tables}
 use Rattle.ir_table.specs.Fits.{part_sort}
 use Rattle.ir_table.specs.Kinds.{empty_layer, empty_part, heap_of}
+use Rattle.ir_table.specs.Interner.{heap}
+use Rattle.ir_table.specs.Iterated.{AnswersItems}
+use Rattle.ir_table.specs.declared.Interner.{Interner}
 use Rattle.ir_table.specs.State.{State, IsLow, NewAnswers, fits, width}
 use Rattle.ir_laws.proofs.HeapLemmas.{Grows-refl, node_of, tree_of-node}
 use Rattle.ir_laws.proofs.PlantLemmas.{sort-plant}
@@ -32,14 +35,44 @@ module _ {T : Type 0} {name : T → Part} {old new : State} {l : Layer Part} whe
   new_succeeds low held few (Err error.Escapes) a = absurd a.causes
   new_succeeds low held few (Err error.MissingVar) a = absurd a.causes
 
--- where an iterator gives a list whose parts are live, so are those of what has come
-pub given_live : {S X : Type 0} (steps : S → Option X → S → Type 0) (name : X → Part) (h : Heap Part) (ys : List X) (s : S) → AlwaysYields steps (λ x. x) s ys → Each (IsLive h) (map name ys) → HoldsAlong steps s (λ xs. Each (IsLive h) (map name xs))
-given_live {S = S} {X = X} steps name h ys s all live = λ xs t came. by ys s xs t all live came
-  where
-    by : (ys : List X) (s : S) (xs : List X) (t : S) → AlwaysYields steps (λ x. x) s ys → Each (IsLive h) (map name ys) → Yields steps s xs t → Each (IsLive h) (map name xs)
-    by ys s [] t all live came = tt
-    by [] s (x ∷ xs) t all live came = absurd (all x came.0 came.1)
-    by (y ∷ ys) s (x ∷ xs) t all live came = let w = all.1 x came.0 came.1 in (subst (λ z. IsLive h (name z)) (sym w.0) live.0, by ys came.0 xs t w.1 live.1 came.2)
+-- ---- lists of what an iterator gives
+
+module _ {S X : Type 0} (steps : S → Option X → S → Type 0) (left : S → List X) (first : (s t : S) (x : X) → steps s (Some x) t → left s ≡ x ∷ left t) where
+  -- where an item is the first of what was left, what has come is a front of that
+  front_came : (xs : List X) (s t : S) → Yields steps s xs t → left s ≡ xs ++ left t
+  front_came [] s t same = ap left same
+  front_came (x ∷ xs) s t came = first s came.0 x came.1 ∙ ap (λ (ys : List X). x ∷ ys) (front_came xs came.0 t came.2)
+
+module _ {X : Type 0} (name : X → Part) (h : Heap Part) where
+  front_live : (xs ys : List X) → Each (IsLive h) (map name (xs ++ ys)) → Each (IsLive h) (map name xs)
+  front_live [] ys live = tt
+  front_live (x ∷ xs) ys live = (live.0, front_live xs ys live.1)
+
+  front_tried : (xs all : List X) (rest : List (Result X TermError)) → map Ok xs ++ rest ≡ map Ok all → Each (IsLive h) (map name all) → Each (IsLive h) (map name xs)
+  front_tried [] all rest e live = tt
+  front_tried (x ∷ xs) [] rest e live = absurd cc
+  front_tried (x ∷ xs) (a ∷ all) rest e live =
+      let same : x ≡ a = cc in
+      let more : map Ok xs ++ rest ≡ map Ok all = cc in
+      (subst (λ z. IsLive h (name z)) (sym same) live.0, front_tried xs all rest more live.1)
+
+  -- where the parts of what is left are live, so are those of what has come
+  pub given_live : {S : Type 0} (steps : S → Option X → S → Type 0) (left : S → List X) → ((s t : S) (x : X) → steps s (Some x) t → left s ≡ x ∷ left t)
+      → (s : S) (all : List X) → left s ≡ all → Each (IsLive h) (map name all) → HoldsAlong steps s (λ xs. Each (IsLive h) (map name xs))
+  given_live steps left first s all is_left live = λ xs t came. front_live xs (left t) (subst (λ ys. Each (IsLive h) (map name ys)) (sym is_left ∙ front_came steps left first xs s t came) live)
+
+  -- the same, where an item may be a refusal
+  pub tried_live : {S : Type 0} (steps : S → Option (Result X TermError) → S → Type 0) (left : S → List (Result X TermError)) → ((s t : S) (x : Result X TermError) → steps s (Some x) t → left s ≡ x ∷ left t)
+      → (s : S) (all : List X) → left s ≡ map Ok all → Each (IsLive h) (map name all) → HoldsAlong steps s (λ rs. (xs : List X) → rs ≡ map Ok xs → Each (IsLive h) (map name xs))
+  tried_live steps left first s all is_left live = λ rs t came xs given.
+      front_tried xs all (left t) (ap (λ ys. ys ++ left t) (sym given) ∙ sym (front_came steps left first rs s t came) ∙ is_left) live
+
+-- whatever a call answers that reads its items from an iterator, the heap grew
+pub items_grow : {T X S : Type 0} {name : T → Part} {layer : List X → Layer Part} {old new : Interner} (steps : S → Option X → S → Type 0) (s : S) (r : Result T TermError) → AnswersItems name layer old new steps s r → Grows (heap old) (heap new)
+items_grow {old = old} steps s r a = elim a [
+  | inl stops ↦ subst (λ (k : State). Grows (heap old) k.heap) (sym stops.same) (Grows-refl (heap old))
+  | inr list ↦ new_grows r list.2
+]
 
 -- ---- the sort of a part is that of its tree
 

@@ -24,7 +24,7 @@ module _ (cx : Interner) (tys : Tys) (given : (all : List Ty) × HasTypes cx tys
   pub some_types : 0 < length xs
   some_types = some_items (heap cx) (part.Tys tys) given.0 xs given.1 has given.2
 
-  pub front_then_last : HasTypes cx tys (take (length xs - 1) xs ++ get_or xs (length xs - 1) (record { position = 0 }) ∷ [])
+  pub front_then_last : HasTypes cx tys (take (length xs - 1) xs ++ get_or xs (length xs - 1) (record { index = 0 }) ∷ [])
   front_then_last =
       let some = some_types in
-      subst (λ ys. HasTypes cx tys ys) (front_and_last xs (length xs - 1) (record { position = 0 }) (omega arith)) has
+      subst (λ ys. HasTypes cx tys ys) (front_and_last xs (length xs - 1) (record { index = 0 }) (omega arith)) has

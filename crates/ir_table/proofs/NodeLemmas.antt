@@ -209,9 +209,9 @@ kinds_of_fields [] = refl
 kinds_of_fields (v ∷ vs) = ap (λ ks. variable_seen v ∷ ks) (kinds_of_fields vs)
 
 -- a list of variables has these
-pub kinds_in_list : (t : Tables) (v : BoundVarKinds) (vs : List BoundVarKind) → option_map (λ e. e.0) (slice_get t.variable_lists v.position) ≡ Some vs → kinds_at (heap_of t) (part.BoundVarKinds v) ≡ map variable_seen vs
+pub kinds_in_list : (t : Tables) (v : BoundVarKinds) (vs : List BoundVarKind) → option_map (λ e. e.0) (slice_get t.variable_lists v.index) ≡ Some vs → kinds_at (heap_of t) (part.BoundVarKinds v) ≡ map variable_seen vs
 unfolding heap_of
-kinds_in_list t v vs e = by (slice_get t.variable_lists v.position) e
+kinds_in_list t v vs e = by (slice_get t.variable_lists v.index) e
   where
     by : (o : Option (List BoundVarKind × Kept)) → option_map (λ (e : List BoundVarKind × Kept). e.0) o ≡ Some vs → option_map_or (λ (s : Sketch Part). kinds_among s.layer.label.fields) (option_map (sketch_of variables_layer) o) [] ≡ map variable_seen vs
     by None e = absurd (none-some vs e)

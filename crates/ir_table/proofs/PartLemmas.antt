@@ -177,17 +177,17 @@ module _ (t : Tables) (A : Part → Layer Part → Type 0)
 
   pub by_sort : (q : Part) (s : Sketch Part) → heap_of t q ≡ Some s → A q s.layer
   unfolding heap_of
-  by_sort (part.Ty h) s e = by_key (part.Ty h) ty_layer (slice_get t.tys h.position) s (ty h) e
-  by_sort (part.Const h) s e = by_key (part.Const h) const_layer (slice_get t.consts h.position) s (constant h) e
-  by_sort (part.Region h) s e = by_key (part.Region h) region_layer (slice_get t.regions h.position) s (region h) e
-  by_sort (part.Tys h) s e = by_key (part.Tys h) tys_layer (slice_get t.type_lists h.position) s (tys h) e
-  by_sort (part.BoundVarKinds h) s e = by_key (part.BoundVarKinds h) variables_layer (slice_get t.variable_lists h.position) s (variables h) e
-  by_sort (part.VariancesOf h) s e = by_key (part.VariancesOf h) variances_layer (slice_get t.variance_lists h.position) s (variances h) e
-  by_sort (part.GenericArgs h) s e = by_empty empty.GenericArgs h.position (slice_get t.empty_lists h.position) s e
-  by_sort (part.PatList h) s e = by_empty empty.PatList h.position (slice_get t.empty_lists h.position) s e
-  by_sort (part.BoundExistentialPredicates h) s e = by_empty empty.BoundExistentialPredicates h.position (slice_get t.empty_lists h.position) s e
-  by_sort (part.Clauses h) s e = by_empty empty.Clauses h.position (slice_get t.empty_lists h.position) s e
-  by_sort (part.RegionAssumptions h) s e = by_empty empty.RegionAssumptions h.position (slice_get t.empty_lists h.position) s e
+  by_sort (part.Ty h) s e = by_key (part.Ty h) ty_layer (slice_get t.tys h.index) s (ty h) e
+  by_sort (part.Const h) s e = by_key (part.Const h) const_layer (slice_get t.consts h.index) s (constant h) e
+  by_sort (part.Region h) s e = by_key (part.Region h) region_layer (slice_get t.regions h.index) s (region h) e
+  by_sort (part.Tys h) s e = by_key (part.Tys h) tys_layer (slice_get t.type_lists h.index) s (tys h) e
+  by_sort (part.BoundVarKinds h) s e = by_key (part.BoundVarKinds h) variables_layer (slice_get t.variable_lists h.index) s (variables h) e
+  by_sort (part.VariancesOf h) s e = by_key (part.VariancesOf h) variances_layer (slice_get t.variance_lists h.index) s (variances h) e
+  by_sort (part.GenericArgs h) s e = by_empty empty.GenericArgs h.index (slice_get t.empty_lists h.index) s e
+  by_sort (part.PatList h) s e = by_empty empty.PatList h.index (slice_get t.empty_lists h.index) s e
+  by_sort (part.BoundExistentialPredicates h) s e = by_empty empty.BoundExistentialPredicates h.index (slice_get t.empty_lists h.index) s e
+  by_sort (part.Clauses h) s e = by_empty empty.Clauses h.index (slice_get t.empty_lists h.index) s e
+  by_sort (part.RegionAssumptions h) s e = by_empty empty.RegionAssumptions h.index (slice_get t.empty_lists h.index) s e
 
 module _ (t : Tables) where
   -- a part's layer is of its sort
@@ -212,7 +212,7 @@ module _ (t : Tables) where
   -- a live list of variables binds
   pub variables_bind : (v : BoundVarKinds) → IsLive (heap_of t) (part.BoundVarKinds v) → is_binder (heap_of t) (Some (part.BoundVarKinds v)) ≡ true
   unfolding heap_of
-  variables_bind v live = by (slice_get t.variable_lists v.position) live
+  variables_bind v live = by (slice_get t.variable_lists v.index) live
     where
       by : (o : Option (List BoundVarKind × Kept)) → is_some (option_map (sketch_of variables_layer) o) ≡ true → option_map_or (λ (s : Sketch Part). is_variable_list s.layer) (option_map (sketch_of variables_layer) o) false ≡ true
       by None l = absurd (true≢false (sym l))
@@ -308,28 +308,28 @@ map_injective f one (x ∷ xs) (y ∷ ys) e =
 
 -- ---- the sorts with tables of their own
 
-is_ty : (q : Part) → sort_of q ≡ ty → (i : ℕ) × (q ≡ part.Ty (record { position = i }))
-is_ty (part.Ty h) e = (h.position, refl)
+is_ty : (q : Part) → sort_of q ≡ ty → (i : ℕ) × (q ≡ part.Ty (record { index = i }))
+is_ty (part.Ty h) e = (h.index, refl)
 is_ty _ e = absurd cc
 
-is_const : (q : Part) → sort_of q ≡ constant → (i : ℕ) × (q ≡ part.Const (record { position = i }))
-is_const (part.Const h) e = (h.position, refl)
+is_const : (q : Part) → sort_of q ≡ constant → (i : ℕ) × (q ≡ part.Const (record { index = i }))
+is_const (part.Const h) e = (h.index, refl)
 is_const _ e = absurd cc
 
-is_region : (q : Part) → sort_of q ≡ region → (i : ℕ) × (q ≡ part.Region (record { position = i }))
-is_region (part.Region h) e = (h.position, refl)
+is_region : (q : Part) → sort_of q ≡ region → (i : ℕ) × (q ≡ part.Region (record { index = i }))
+is_region (part.Region h) e = (h.index, refl)
 is_region _ e = absurd cc
 
-is_tys : (q : Part) → sort_of q ≡ tys_list → (i : ℕ) × (q ≡ part.Tys (record { position = i }))
-is_tys (part.Tys h) e = (h.position, refl)
+is_tys : (q : Part) → sort_of q ≡ tys_list → (i : ℕ) × (q ≡ part.Tys (record { index = i }))
+is_tys (part.Tys h) e = (h.index, refl)
 is_tys _ e = absurd cc
 
-is_variables : (q : Part) → sort_of q ≡ variables_list → (i : ℕ) × (q ≡ part.BoundVarKinds (record { position = i }))
-is_variables (part.BoundVarKinds h) e = (h.position, refl)
+is_variables : (q : Part) → sort_of q ≡ variables_list → (i : ℕ) × (q ≡ part.BoundVarKinds (record { index = i }))
+is_variables (part.BoundVarKinds h) e = (h.index, refl)
 is_variables _ e = absurd cc
 
-is_variances : (q : Part) → sort_of q ≡ variances_list → (i : ℕ) × (q ≡ part.VariancesOf (record { position = i }))
-is_variances (part.VariancesOf h) e = (h.position, refl)
+is_variances : (q : Part) → sort_of q ≡ variances_list → (i : ℕ) × (q ≡ part.VariancesOf (record { index = i }))
+is_variances (part.VariancesOf h) e = (h.index, refl)
 is_variances _ e = absurd cc
 
 -- each is told by its field
@@ -359,56 +359,56 @@ variance_told : (x y : Variance) → variance_field x ≡ variance_field y → x
 variance_told x y e = sym (variance_back x) ∙ ap variance_of e ∙ variance_back y
 
 module _ (t : Tables) where
-  pub ty_table : HasTable part.Ty (λ i. record { position = i }) ty_layer (λ es. heap_of (with_tys t es))
+  pub ty_table : HasTable part.Ty (λ i. record { index = i }) ty_layer (λ es. heap_of (with_tys t es))
   unfolding heap_of
   ty_table = record {
     at = λ es i. refl;
-    others = λ es fs. elim [ part.Ty h ↦ inl (h.position, refl) | _ ↦ inr refl ];
+    others = λ es fs. elim [ part.Ty h ↦ inl (h.index, refl) | _ ↦ inr refl ];
     own = λ es k q s e layers. is_ty q (sym (sorted (with_tys t es) q s e) ∙ ap layer_sort layers ∙ ty_layer_sort k);
     told = λ k l x. sym (ty_of-parts k) ∙ ap (λ (m : Layer Part). ty_of m.label.word m.label.fields m.binder m.kids) x ∙ ty_of-parts l;
   }
 
-  pub const_table : HasTable part.Const (λ i. record { position = i }) const_layer (λ es. heap_of (with_consts t es))
+  pub const_table : HasTable part.Const (λ i. record { index = i }) const_layer (λ es. heap_of (with_consts t es))
   unfolding heap_of
   const_table = record {
     at = λ es i. refl;
-    others = λ es fs. elim [ part.Const h ↦ inl (h.position, refl) | _ ↦ inr refl ];
+    others = λ es fs. elim [ part.Const h ↦ inl (h.index, refl) | _ ↦ inr refl ];
     own = λ es k q s e layers. is_const q (sym (sorted (with_consts t es) q s e) ∙ ap layer_sort layers ∙ const_layer_sort k);
     told = λ k l x. sym (const_of-parts k) ∙ ap (λ (m : Layer Part). const_of m.label.word m.label.fields) x ∙ const_of-parts l;
   }
 
-  pub region_table : HasTable part.Region (λ i. record { position = i }) region_layer (λ es. heap_of (with_regions t es))
+  pub region_table : HasTable part.Region (λ i. record { index = i }) region_layer (λ es. heap_of (with_regions t es))
   unfolding heap_of
   region_table = record {
     at = λ es i. refl;
-    others = λ es fs. elim [ part.Region h ↦ inl (h.position, refl) | _ ↦ inr refl ];
+    others = λ es fs. elim [ part.Region h ↦ inl (h.index, refl) | _ ↦ inr refl ];
     own = λ es k q s e layers. is_region q (sym (sorted (with_regions t es) q s e) ∙ ap layer_sort layers ∙ region_layer_sort k);
     told = λ k l x. sym (region_of-parts k) ∙ ap (λ (m : Layer Part). region_of m.label.word m.label.fields) x ∙ region_of-parts l;
   }
 
-  pub tys_table : HasTable part.Tys (λ i. record { position = i }) tys_layer (λ es. heap_of (with_type_lists t es))
+  pub tys_table : HasTable part.Tys (λ i. record { index = i }) tys_layer (λ es. heap_of (with_type_lists t es))
   unfolding heap_of
   tys_table = record {
     at = λ es i. refl;
-    others = λ es fs. elim [ part.Tys h ↦ inl (h.position, refl) | _ ↦ inr refl ];
+    others = λ es fs. elim [ part.Tys h ↦ inl (h.index, refl) | _ ↦ inr refl ];
     own = λ es k q s e layers. is_tys q (sym (sorted (with_type_lists t es) q s e) ∙ ap layer_sort layers);
     told = λ k l x. map_injective part.Ty (λ a b w. cc w) k l (ap (λ (m : Layer Part). m.kids) x);
   }
 
-  pub variables_table : HasTable part.BoundVarKinds (λ i. record { position = i }) variables_layer (λ es. heap_of (with_variable_lists t es))
+  pub variables_table : HasTable part.BoundVarKinds (λ i. record { index = i }) variables_layer (λ es. heap_of (with_variable_lists t es))
   unfolding heap_of
   variables_table = record {
     at = λ es i. refl;
-    others = λ es fs. elim [ part.BoundVarKinds h ↦ inl (h.position, refl) | _ ↦ inr refl ];
+    others = λ es fs. elim [ part.BoundVarKinds h ↦ inl (h.index, refl) | _ ↦ inr refl ];
     own = λ es k q s e layers. is_variables q (sym (sorted (with_variable_lists t es) q s e) ∙ ap layer_sort layers);
     told = λ k l x. field_told variable_field variable_told VariableList k l x;
   }
 
-  pub variances_table : HasTable part.VariancesOf (λ i. record { position = i }) variances_layer (λ es. heap_of (with_variance_lists t es))
+  pub variances_table : HasTable part.VariancesOf (λ i. record { index = i }) variances_layer (λ es. heap_of (with_variance_lists t es))
   unfolding heap_of
   variances_table = record {
     at = λ es i. refl;
-    others = λ es fs. elim [ part.VariancesOf h ↦ inl (h.position, refl) | _ ↦ inr refl ];
+    others = λ es fs. elim [ part.VariancesOf h ↦ inl (h.index, refl) | _ ↦ inr refl ];
     own = λ es k q s e layers. is_variances q (sym (sorted (with_variance_lists t es) q s e) ∙ ap layer_sort layers);
     told = λ k l x. field_told variance_field variance_told VarianceList k l x;
   }
@@ -416,11 +416,11 @@ module _ (t : Tables) where
 -- ---- the empty lists, which share a table
 
 is_empty : (k : EmptyList) (q : Part) → sort_of q ≡ empty_list k → (i : ℕ) × (q ≡ empty_part k i)
-is_empty k (part.GenericArgs h) e = let same : empty.GenericArgs ≡ k = cc in (h.position, ap (λ l. empty_part l h.position) same)
-is_empty k (part.PatList h) e = let same : empty.PatList ≡ k = cc in (h.position, ap (λ l. empty_part l h.position) same)
-is_empty k (part.BoundExistentialPredicates h) e = let same : empty.BoundExistentialPredicates ≡ k = cc in (h.position, ap (λ l. empty_part l h.position) same)
-is_empty k (part.Clauses h) e = let same : empty.Clauses ≡ k = cc in (h.position, ap (λ l. empty_part l h.position) same)
-is_empty k (part.RegionAssumptions h) e = let same : empty.RegionAssumptions ≡ k = cc in (h.position, ap (λ l. empty_part l h.position) same)
+is_empty k (part.GenericArgs h) e = let same : empty.GenericArgs ≡ k = cc in (h.index, ap (λ l. empty_part l h.index) same)
+is_empty k (part.PatList h) e = let same : empty.PatList ≡ k = cc in (h.index, ap (λ l. empty_part l h.index) same)
+is_empty k (part.BoundExistentialPredicates h) e = let same : empty.BoundExistentialPredicates ≡ k = cc in (h.index, ap (λ l. empty_part l h.index) same)
+is_empty k (part.Clauses h) e = let same : empty.Clauses ≡ k = cc in (h.index, ap (λ l. empty_part l h.index) same)
+is_empty k (part.RegionAssumptions h) e = let same : empty.RegionAssumptions ≡ k = cc in (h.index, ap (λ l. empty_part l h.index) same)
 is_empty k _ e = absurd cc
 
 module _ (t : Tables) where
@@ -435,11 +435,11 @@ module _ (t : Tables) where
   empty_or_other : (es fs : List (EmptyList × Kept)) (q : Part) → ((k : EmptyList) × (i : ℕ) × (q ≡ empty_part k i)) ⊎ (heap_of (with_empty_lists t es) q ≡ heap_of (with_empty_lists t fs) q)
   unfolding heap_of
   empty_or_other es fs = elim [
-    | part.GenericArgs h ↦ inl (empty.GenericArgs, h.position, refl)
-    | part.PatList h ↦ inl (empty.PatList, h.position, refl)
-    | part.BoundExistentialPredicates h ↦ inl (empty.BoundExistentialPredicates, h.position, refl)
-    | part.Clauses h ↦ inl (empty.Clauses, h.position, refl)
-    | part.RegionAssumptions h ↦ inl (empty.RegionAssumptions, h.position, refl)
+    | part.GenericArgs h ↦ inl (empty.GenericArgs, h.index, refl)
+    | part.PatList h ↦ inl (empty.PatList, h.index, refl)
+    | part.BoundExistentialPredicates h ↦ inl (empty.BoundExistentialPredicates, h.index, refl)
+    | part.Clauses h ↦ inl (empty.Clauses, h.index, refl)
+    | part.RegionAssumptions h ↦ inl (empty.RegionAssumptions, h.index, refl)
     | _ ↦ inr refl
   ]
 

@@ -15,7 +15,7 @@ pub kept : (s : Store) → IsKept (stored s)
 kept s = record { sound = s.sound; counted = s.counted; few = s.few; low = s.low }
 
 module _ (t : Tables) (limits : Limits) where
-  pub ty_sort : IsSort (λ _. part.Ty) (λ i. record { position = i }) ty_layer (λ es. state_of (with_tys t es) limits)
+  pub ty_sort : IsSort (λ _. part.Ty) (λ i. record { index = i }) ty_layer (λ es. state_of (with_tys t es) limits)
   ty_sort = record {
     adds = table_adds (ty_table t);
     fresh = table_fresh (ty_table t);
@@ -25,7 +25,7 @@ module _ (t : Tables) (limits : Limits) where
     limits = λ es fs. refl;
   }
 
-  pub const_sort : IsSort (λ _. part.Const) (λ i. record { position = i }) const_layer (λ es. state_of (with_consts t es) limits)
+  pub const_sort : IsSort (λ _. part.Const) (λ i. record { index = i }) const_layer (λ es. state_of (with_consts t es) limits)
   const_sort = record {
     adds = table_adds (const_table t);
     fresh = table_fresh (const_table t);
@@ -35,7 +35,7 @@ module _ (t : Tables) (limits : Limits) where
     limits = λ es fs. refl;
   }
 
-  pub region_sort : IsSort (λ _. part.Region) (λ i. record { position = i }) region_layer (λ es. state_of (with_regions t es) limits)
+  pub region_sort : IsSort (λ _. part.Region) (λ i. record { index = i }) region_layer (λ es. state_of (with_regions t es) limits)
   region_sort = record {
     adds = table_adds (region_table t);
     fresh = table_fresh (region_table t);
@@ -45,7 +45,7 @@ module _ (t : Tables) (limits : Limits) where
     limits = λ es fs. refl;
   }
 
-  pub tys_sort : IsSort (λ _. part.Tys) (λ i. record { position = i }) tys_layer (λ es. state_of (with_type_lists t es) limits)
+  pub tys_sort : IsSort (λ _. part.Tys) (λ i. record { index = i }) tys_layer (λ es. state_of (with_type_lists t es) limits)
   tys_sort = record {
     adds = table_adds (tys_table t);
     fresh = table_fresh (tys_table t);
@@ -55,7 +55,7 @@ module _ (t : Tables) (limits : Limits) where
     limits = λ es fs. refl;
   }
 
-  pub variables_sort : IsSort (λ _. part.BoundVarKinds) (λ i. record { position = i }) variables_layer (λ es. state_of (with_variable_lists t es) limits)
+  pub variables_sort : IsSort (λ _. part.BoundVarKinds) (λ i. record { index = i }) variables_layer (λ es. state_of (with_variable_lists t es) limits)
   variables_sort = record {
     adds = table_adds (variables_table t);
     fresh = table_fresh (variables_table t);
@@ -65,7 +65,7 @@ module _ (t : Tables) (limits : Limits) where
     limits = λ es fs. refl;
   }
 
-  pub variances_sort : IsSort (λ _. part.VariancesOf) (λ i. record { position = i }) variances_layer (λ es. state_of (with_variance_lists t es) limits)
+  pub variances_sort : IsSort (λ _. part.VariancesOf) (λ i. record { index = i }) variances_layer (λ es. state_of (with_variance_lists t es) limits)
   variances_sort = record {
     adds = table_adds (variances_table t);
     fresh = table_fresh (variances_table t);

@@ -389,11 +389,11 @@ empty_number empty.Clauses = 3
 empty_number empty.RegionAssumptions = 4
 
 abbrev pub empty_part : EmptyList → ℕ → Part
-empty_part empty.GenericArgs i = part.GenericArgs (record { position = i })
-empty_part empty.PatList i = part.PatList (record { position = i })
-empty_part empty.BoundExistentialPredicates i = part.BoundExistentialPredicates (record { position = i })
-empty_part empty.Clauses i = part.Clauses (record { position = i })
-empty_part empty.RegionAssumptions i = part.RegionAssumptions (record { position = i })
+empty_part empty.GenericArgs i = part.GenericArgs (record { index = i })
+empty_part empty.PatList i = part.PatList (record { index = i })
+empty_part empty.BoundExistentialPredicates i = part.BoundExistentialPredicates (record { index = i })
+empty_part empty.Clauses i = part.Clauses (record { index = i })
+empty_part empty.RegionAssumptions i = part.RegionAssumptions (record { index = i })
 
 -- ---- the heap
 
@@ -412,14 +412,14 @@ empty_at k (Some e) = if nat_eq (empty_number e.0) (empty_number k) then Some (s
 
 -- the heap that the tables are
 unfoldable pub heap_of : Tables → Heap Part
-heap_of t (part.Ty h) = option_map (sketch_of ty_layer) (slice_get t.tys h.position)
-heap_of t (part.Const h) = option_map (sketch_of const_layer) (slice_get t.consts h.position)
-heap_of t (part.Region h) = option_map (sketch_of region_layer) (slice_get t.regions h.position)
-heap_of t (part.Tys h) = option_map (sketch_of tys_layer) (slice_get t.type_lists h.position)
-heap_of t (part.BoundVarKinds h) = option_map (sketch_of variables_layer) (slice_get t.variable_lists h.position)
-heap_of t (part.VariancesOf h) = option_map (sketch_of variances_layer) (slice_get t.variance_lists h.position)
-heap_of t (part.GenericArgs h) = empty_at empty.GenericArgs (slice_get t.empty_lists h.position)
-heap_of t (part.PatList h) = empty_at empty.PatList (slice_get t.empty_lists h.position)
-heap_of t (part.BoundExistentialPredicates h) = empty_at empty.BoundExistentialPredicates (slice_get t.empty_lists h.position)
-heap_of t (part.Clauses h) = empty_at empty.Clauses (slice_get t.empty_lists h.position)
-heap_of t (part.RegionAssumptions h) = empty_at empty.RegionAssumptions (slice_get t.empty_lists h.position)
+heap_of t (part.Ty h) = option_map (sketch_of ty_layer) (slice_get t.tys h.index)
+heap_of t (part.Const h) = option_map (sketch_of const_layer) (slice_get t.consts h.index)
+heap_of t (part.Region h) = option_map (sketch_of region_layer) (slice_get t.regions h.index)
+heap_of t (part.Tys h) = option_map (sketch_of tys_layer) (slice_get t.type_lists h.index)
+heap_of t (part.BoundVarKinds h) = option_map (sketch_of variables_layer) (slice_get t.variable_lists h.index)
+heap_of t (part.VariancesOf h) = option_map (sketch_of variances_layer) (slice_get t.variance_lists h.index)
+heap_of t (part.GenericArgs h) = empty_at empty.GenericArgs (slice_get t.empty_lists h.index)
+heap_of t (part.PatList h) = empty_at empty.PatList (slice_get t.empty_lists h.index)
+heap_of t (part.BoundExistentialPredicates h) = empty_at empty.BoundExistentialPredicates (slice_get t.empty_lists h.index)
+heap_of t (part.Clauses h) = empty_at empty.Clauses (slice_get t.empty_lists h.index)
+heap_of t (part.RegionAssumptions h) = empty_at empty.RegionAssumptions (slice_get t.empty_lists h.index)

@@ -166,17 +166,17 @@ impl Store {
     {
         let tables = &self.tables;
         match part {
-            Part::Ty(ty) => tables.tys.get(ty.position as usize).1,
-            Part::Const(konst) => tables.consts.get(konst.position as usize).1,
-            Part::Region(region) => tables.regions.get(region.position as usize).1,
-            Part::Tys(list) => tables.type_lists.value(list.position as usize),
-            Part::BoundVarKinds(list) => tables.variable_lists.value(list.position as usize),
-            Part::VariancesOf(list) => tables.variance_lists.value(list.position as usize),
-            Part::GenericArgs(list) => self.cached_empty(list.position),
-            Part::PatList(list) => self.cached_empty(list.position),
-            Part::BoundExistentialPredicates(list) => self.cached_empty(list.position),
-            Part::Clauses(list) => self.cached_empty(list.position),
-            Part::RegionAssumptions(list) => self.cached_empty(list.position),
+            Part::Ty(ty) => tables.tys.get(ty.index as usize).1,
+            Part::Const(konst) => tables.consts.get(konst.index as usize).1,
+            Part::Region(region) => tables.regions.get(region.index as usize).1,
+            Part::Tys(list) => tables.type_lists.value(list.index as usize),
+            Part::BoundVarKinds(list) => tables.variable_lists.value(list.index as usize),
+            Part::VariancesOf(list) => tables.variance_lists.value(list.index as usize),
+            Part::GenericArgs(list) => self.cached_empty(list.index),
+            Part::PatList(list) => self.cached_empty(list.index),
+            Part::BoundExistentialPredicates(list) => self.cached_empty(list.index),
+            Part::Clauses(list) => self.cached_empty(list.index),
+            Part::RegionAssumptions(list) => self.cached_empty(list.index),
         }
     }
 
@@ -188,12 +188,12 @@ impl Store {
         self.cached(part)
     }
 
-    // What is kept beside the empty list at the position.
-    fn cached_empty(&self, position: u32) -> Kept
-        requires { position < length self.now.tables.empty_lists }
-        ensures { option_map (λ e. e.1) (slice_get self.now.tables.empty_lists position) ≡ Some result }
+    // What is kept beside the empty list at the index.
+    fn cached_empty(&self, index: u32) -> Kept
+        requires { index < length self.now.tables.empty_lists }
+        ensures { option_map (λ e. e.1) (slice_get self.now.tables.empty_lists index) ≡ Some result }
     {
-        self.tables.empty_lists.get(position as usize).1
+        self.tables.empty_lists.get(index as usize).1
     }
 
     // One kid more.
@@ -226,7 +226,7 @@ impl Store {
         let count = self
             .tables
             .variable_lists
-            .get(variables.position as usize)
+            .get(variables.index as usize)
             .len();
         let flags = if count == 0 {
             above.flags

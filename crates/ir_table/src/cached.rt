@@ -14,11 +14,11 @@ ghost use Rattle.std.specs.Prelude.{◌≡◌, ◌↔◌, ◌+◌, ◌<◌, ◌�
 
 use crate::parts::{Kids, Node};
 use crate::split::header_fields;
-use crate::{Handle, Interner, Kept};
+use crate::{Interner, Kept, Live};
 use bitflags::Flags;
 use ir_core::{
-    Binder, BoundVarKinds, Const, DebruijnIndex, FnHeader, FnSig, Part, Region, Ty, TypeFlags, Tys,
-    VariancesOf,
+    Binder, BoundExistentialPredicates, BoundVarKinds, Clauses, Const, DebruijnIndex, FnHeader,
+    FnSig, GenericArgs, Part, PatList, Region, RegionAssumptions, Ty, TypeFlags, Tys, VariancesOf,
 };
 use ir_laws::Word;
 
@@ -39,7 +39,7 @@ pub trait Cached: Copy {
         ensures { Tells (tree (heap cx.now) self) result };
 
     /// The flags of all nodes of its tree together.
-    fn flags(self, cx: &Interner) -> TypeFlags
+    final fn flags(self, cx: &Interner) -> TypeFlags
         requires { Each (IsLive (heap cx.now)) (names self) }
         ensures { bits_of result ≡ flags (tree (heap cx.now) self) }
     {
@@ -47,7 +47,7 @@ pub trait Cached: Copy {
     }
 
     /// How many binders outside of it it speaks of: one more than the greatest index of a variable that is bound outside.
-    fn outer_exclusive_binder(self, cx: &Interner) -> DebruijnIndex
+    final fn outer_exclusive_binder(self, cx: &Interner) -> DebruijnIndex
         requires { Each (IsLive (heap cx.now)) (names self) }
         ensures { result.0 ≡ outer (tree (heap cx.now) self) }
     {
@@ -55,7 +55,7 @@ pub trait Cached: Copy {
     }
 
     /// The height of its tree: a leaf has height 1, another node one more than its highest kid.
-    fn height(self, cx: &Interner) -> u32
+    final fn height(self, cx: &Interner) -> u32
         requires { Each (IsLive (heap cx.now)) (names self) }
         ensures { result ≡ height (tree (heap cx.now) self) }
     {
@@ -63,7 +63,7 @@ pub trait Cached: Copy {
     }
 
     /// The size of its tree, which ends at 2^48 + 1.
-    fn size(self, cx: &Interner) -> u64
+    final fn size(self, cx: &Interner) -> u64
         requires { Each (IsLive (heap cx.now)) (names self) }
         ensures { result ≡ min size_cap (size (tree (heap cx.now) self)) }
     {
@@ -71,7 +71,7 @@ pub trait Cached: Copy {
     }
 
     /// Whether a variable in it is bound by the binder that so many others stand before, or further out.
-    fn has_vars_bound_at_or_above(self, cx: &Interner, binder: DebruijnIndex) -> bool
+    final fn has_vars_bound_at_or_above(self, cx: &Interner, binder: DebruijnIndex) -> bool
         requires { Each (IsLive (heap cx.now)) (names self) }
         ensures { IsTrue result ↔ (binder.0 < outer (tree (heap cx.now) self)) }
     {
@@ -79,7 +79,7 @@ pub trait Cached: Copy {
     }
 
     /// Whether a variable in it is bound further out than the binder that so many others stand before.
-    fn has_vars_bound_above(self, cx: &Interner, binder: DebruijnIndex) -> bool
+    final fn has_vars_bound_above(self, cx: &Interner, binder: DebruijnIndex) -> bool
         requires { Each (IsLive (heap cx.now)) (names self) }
         ensures { IsTrue result ↔ (binder.0 + 1 < outer (tree (heap cx.now) self)) }
     {
@@ -87,7 +87,7 @@ pub trait Cached: Copy {
     }
 
     /// Whether a variable in it is bound outside of it.
-    fn has_escaping_bound_vars(self, cx: &Interner) -> bool
+    final fn has_escaping_bound_vars(self, cx: &Interner) -> bool
         requires { Each (IsLive (heap cx.now)) (names self) }
         ensures { IsTrue result ↔ (0 < outer (tree (heap cx.now) self)) }
     {
@@ -95,7 +95,7 @@ pub trait Cached: Copy {
     }
 
     /// Whether it holds an error.
-    fn references_error(self, cx: &Interner) -> bool
+    final fn references_error(self, cx: &Interner) -> bool
         requires { Each (IsLive (heap cx.now)) (names self) }
         ensures { result ≡ has_some_of HAS_ERROR (flags (tree (heap cx.now) self)) }
     {
@@ -103,7 +103,7 @@ pub trait Cached: Copy {
     }
 
     /// Whether its meaning is the same everywhere: it holds no parameter, variable to be inferred, placeholder, local region or alias.
-    fn is_global(self, cx: &Interner) -> bool
+    final fn is_global(self, cx: &Interner) -> bool
         requires { Each (IsLive (heap cx.now)) (names self) }
         ensures { result ≡ not (has_some_of not_global (flags (tree (heap cx.now) self))) }
     {
@@ -184,6 +184,56 @@ impl Cached for VariancesOf {
     }
 }
 
+impl Cached for GenericArgs {
+    ghost tree = { λ h args. tree_of h (part.GenericArgs args) };
+
+    ghost names = { λ args. part.GenericArgs args ∷ [] };
+
+    fn kept(self, cx: &Interner) -> Kept {
+        cx.store.told(Part::GenericArgs(self))
+    }
+}
+
+impl Cached for PatList {
+    ghost tree = { λ h ps. tree_of h (part.PatList ps) };
+
+    ghost names = { λ ps. part.PatList ps ∷ [] };
+
+    fn kept(self, cx: &Interner) -> Kept {
+        cx.store.told(Part::PatList(self))
+    }
+}
+
+impl Cached for BoundExistentialPredicates {
+    ghost tree = { λ h ps. tree_of h (part.BoundExistentialPredicates ps) };
+
+    ghost names = { λ ps. part.BoundExistentialPredicates ps ∷ [] };
+
+    fn kept(self, cx: &Interner) -> Kept {
+        cx.store.told(Part::BoundExistentialPredicates(self))
+    }
+}
+
+impl Cached for Clauses {
+    ghost tree = { λ h cs. tree_of h (part.Clauses cs) };
+
+    ghost names = { λ cs. part.Clauses cs ∷ [] };
+
+    fn kept(self, cx: &Interner) -> Kept {
+        cx.store.told(Part::Clauses(self))
+    }
+}
+
+impl Cached for RegionAssumptions {
+    ghost tree = { λ h rs. tree_of h (part.RegionAssumptions rs) };
+
+    ghost names = { λ rs. part.RegionAssumptions rs ∷ [] };
+
+    fn kept(self, cx: &Interner) -> Kept {
+        cx.store.told(Part::RegionAssumptions(self))
+    }
+}
+
 // The node of a signature, under a binder or opened.
 fn signature_node(sig: FnSig, binder: Option<BoundVarKinds>) -> Node
     ensures { node_layer result ≡ signature_layer sig (option_map part.BoundVarKinds binder) }
@@ -226,7 +276,7 @@ impl Cached for Binder<FnSig> {
 }
 
 // A handle under a binder: a node that binds over the handle's term alone.
-impl<T: Handle> Cached for Binder<T> {
+impl<T: Live> Cached for Binder<T> {
     ghost tree = { λ h b. tree_above h (binder_layer b.bound_vars (T.part b.value)) };
 
     ghost names = { λ b. names_in (binder_layer b.bound_vars (T.part b.value)) };

@@ -8,8 +8,8 @@ ghost use Rattle.std.specs.Prelude.{◌≡◌};
 use crate::above::const_own;
 use crate::split::const_node;
 use crate::store::Store;
-use crate::{Handle, Intern, Interner};
-use ir_core::{Const, ConstKind, Part, R};
+use crate::{Intern, Interner};
+use ir_core::{Const, ConstKind, R};
 
 impl Store {
     // The constant of the kind.
@@ -20,25 +20,15 @@ impl Store {
         self.asked = self.asked.saturating_add(1);
         if let Some(index) = self.tables.consts.find(&kind) {
             return Ok(Const {
-                position: index as u32,
+                index: index as u32,
             });
         }
         let cached = self.admit(self.above_node(const_own(kind), &const_node(kind)))?;
         let index = self.tables.consts.len();
         self.tables.consts.push(kind, cached)?;
         Ok(Const {
-            position: index as u32,
+            index: index as u32,
         })
-    }
-}
-
-impl Handle for Const {
-    ghost part = { part.Const };
-
-    ghost part_injective = { λ x y e. Prim.cc e };
-
-    fn as_part(self) -> Part {
-        Part::Const(self)
     }
 }
 
@@ -52,10 +42,6 @@ impl Intern for Const {
     }
 
     fn kind(self, cx: &Interner) -> ConstKind {
-        cx.store.tables.consts.get(self.position as usize).0
-    }
-
-    fn holds(self, cx: &Interner) -> bool {
-        (self.position as usize) < cx.store.tables.consts.len()
+        cx.store.tables.consts.get(self.index as usize).0
     }
 }

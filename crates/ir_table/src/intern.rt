@@ -3,35 +3,34 @@ ghost use Rattle.ir_laws.specs.Counts.{flags, outer};
 ghost use Rattle.ir_laws.specs.Heap.{Layer, Each, IsLive, HasNode, names_in, tree_of};
 ghost use Rattle.ir_core.specs.Flags.{bits_of};
 ghost use Rattle.ir_table.specs.Interner.{Asks, heap, state};
-ghost use Rattle.ir_table.specs.Iterated.{AsksItems, AsksItemsOrErr, GivesLive, GivesLiveOrErr};
+ghost use Rattle.ir_table.specs.Iterated.{AnswersItems, AnswersItemsOrErr, GivesLive, GivesLiveOrErr};
 ghost use Rattle.ir_table.specs.State.{NewAnswers};
 ghost use Rattle.ir_core.specs.declared.handles.Part.{Part};
 ghost use Rattle.std.specs.Iterator.{IsFinite};
 ghost use Rattle.std.specs.Iterator.Adapters.{copied_source};
-ghost use Rattle.std.specs.Prelude.{◌≡◌, ◌↔◌, [], length, List, IsTrue};
+ghost use Rattle.std.specs.Prelude.{◌≡◌, ◌↔◌, [], Err, length, List, IsTrue};
 ghost use Rattle.std.specs.Slice.Iter.{iter_rest};
 
-use crate::Interner;
-use ir_core::{Part, R, WithCachedTypeInfo};
+use crate::{Interner, Live};
+use ir_core::{R, TermError, WithCachedTypeInfo};
 use std::alloc::Global;
 use std::iter::Copied;
 use std::slice::Iter;
 
-/// A handle, which names a part.
-pub trait Handle: Copy {
-    // the part that it names
-    ghost part: { Self → Part };
-
-    /// The part that it names.
-    fn as_part(self) -> Part
-        ensures { result ≡ part self };
-
-    // two handles of one part are one handle
-    ghost part_injective: { (x y : Self) → part x ≡ part y → x ≡ y };
+impl Interner {
+    // The refusal of a making call before it comes to its list. It counts as asked, and nothing else changes.
+    fn refused<T>(&mut self, error: TermError) -> R<T>
+        ensures err { result ≡ Err error }
+        ensures same { state self.new ≡ state self.old }
+        ensures asked { Asks self.old self.new }
+    {
+        self.store.asked = self.store.asked.saturating_add(1);
+        Err(error)
+    }
 }
 
 /// A handle of a node that is kept once.
-pub trait Intern: Handle {
+pub trait Intern: Live {
     /// What the handle stands for, one layer deep.
     type Kind: Copy;
 
@@ -50,7 +49,7 @@ pub trait Intern: Handle {
         ensures { HasNode (heap cx.now) (Self.part self) (layer result) };
 
     /// The kind, and beside it what the term holds and how many binders outside of it it speaks of.
-    fn inner(self, cx: &Interner) -> WithCachedTypeInfo<Self::Kind>
+    final fn inner(self, cx: &Interner) -> WithCachedTypeInfo<Self::Kind>
         requires { IsLive (heap cx.now) (Self.part self) }
         ensures kind { HasNode (heap cx.now) (Self.part self) (layer result.internee) }
         ensures flags { bits_of result.flags ≡ flags (tree_of (heap cx.now) (Self.part self)) }
@@ -63,14 +62,10 @@ pub trait Intern: Handle {
             outer_exclusive_binder: kept.outer_exclusive_binder,
         }
     }
-
-    /// Whether the handle is one of this interner's.
-    fn holds(self, cx: &Interner) -> bool
-        ensures { IsTrue result ↔ IsLive (heap cx.now) (Self.part self) };
 }
 
 /// A handle of a list that is kept once.
-pub trait InternList: Handle {
+pub trait InternList: Live {
     /// What the list has.
     type Item: Copy;
 
@@ -87,8 +82,8 @@ pub trait InternList: Handle {
         ensures answers { NewAnswers Self.part (state cx.old) (state cx.new) (list_layer items.now) result }
         ensures asked { Asks cx.old cx.new };
 
-    /// The handle of the list of the iterator's items, which are read into memory first. Where there is none, nothing changes.
-    fn new_from_iter<I: Iterator<Item = Self::Item>>(
+    /// The handle of the list of the iterator's items, which are read into memory first. It counts as asked, also where memory for the items is wanted; then no list is made.
+    final fn new_from_iter<I: Iterator<Item = Self::Item>>(
         alloc: Global,
         cx: &mut Interner,
         items: I,
@@ -96,14 +91,17 @@ pub trait InternList: Handle {
         requires can { I.can_next items }
         requires finite { IsFinite (I.remaining items) }
         requires live { GivesLive list_layer cx.old I.next_gives items }
-        ensures { AsksItems Self.part list_layer cx.old cx.new I.next_gives items result }
+        ensures answers { AnswersItems Self.part list_layer cx.old cx.new I.next_gives items result }
+        ensures asked { Asks cx.old cx.new }
     {
-        let items: Vec<Self::Item> = items.collect(alloc)?;
+        let Ok(items) = items.collect::<Vec<Self::Item>>(alloc) else {
+            return cx.refused(TermError::Memory);
+        };
         Self::new_from_slice(cx, items.as_slice())
     }
 
-    /// The same of an iterator whose items may be refusals. The first one is the answer; then no list is made, and nothing changes.
-    fn try_new_from_iter<I: Iterator<Item = R<Self::Item>>>(
+    /// The same of an iterator whose items may be refusals. The first one is the answer, and then no list is made.
+    final fn try_new_from_iter<I: Iterator<Item = R<Self::Item>>>(
         alloc: Global,
         cx: &mut Interner,
         items: I,
@@ -111,11 +109,18 @@ pub trait InternList: Handle {
         requires can { I.can_next items }
         requires finite { IsFinite (I.remaining items) }
         requires live { GivesLiveOrErr list_layer cx.old I.next_gives items }
-        ensures { AsksItemsOrErr Self.part list_layer cx.old cx.new I.next_gives items result }
+        ensures answers { AnswersItemsOrErr Self.part list_layer cx.old cx.new I.next_gives items result }
+        ensures asked { Asks cx.old cx.new }
     {
         let mut all: Vec<Self::Item> = Vec::new(alloc);
         for item in items {
-            all.push(item?)?;
+            let item = match item {
+                Ok(item) => item,
+                Err(error) => return cx.refused(error),
+            };
+            let Ok(()) = all.push(item) else {
+                return cx.refused(TermError::Memory);
+            };
         }
         Self::new_from_slice(cx, all.as_slice())
     }
@@ -126,7 +131,7 @@ pub trait InternList: Handle {
         ensures { HasNode (heap cx.now) (Self.part self) (list_layer result.now) };
 
     /// The items that were put in, in order.
-    fn iter<'a>(self, cx: &'a Interner) -> Copied<Iter<'a, Self::Item>>
+    final fn iter<'a>(self, cx: &'a Interner) -> Copied<Iter<'a, Self::Item>>
         requires { IsLive (heap cx.now) (Self.part self) }
         ensures { let items = iter_rest (copied_source result) in HasNode (heap cx.now) (Self.part self) (list_layer items) }
     {
@@ -142,8 +147,4 @@ pub trait InternList: Handle {
     fn is_empty(self, cx: &Interner) -> bool
         requires { IsLive (heap cx.now) (Self.part self) }
         ensures { (items : List Self.Item) × HasNode (heap cx.now) (Self.part self) (list_layer items) × (IsTrue result ↔ (items ≡ [])) };
-
-    /// Whether the handle is one of this interner's.
-    fn holds(self, cx: &Interner) -> bool
-        ensures { IsTrue result ↔ IsLive (heap cx.now) (Self.part self) };
 }

@@ -20,11 +20,11 @@ ghost use Rattle.std.specs.Prelude.{◌≡◌, ℕ, Bool, [], Some, map as mappe
 ghost use Rattle.ir_laws.specs.Tree as tree;
 
 use crate::parts::Field;
-use crate::{Handle, Intern, Interner};
+use crate::{Intern, Interner};
 use ir_core::{
     Binder, BoundConst, BoundRegion, BoundTy, BoundVar, BoundVarIndexKind, BoundVarKind,
-    BoundVarKinds, Const, ConstKind, DebruijnIndex, FnAbi, FnHeader, FnSigTys, Mutability, Part, R,
-    Region, RegionKind, Safety, Ty, TyKind, Tys, UintTy,
+    BoundVarKinds, Const, ConstKind, DebruijnIndex, FnAbi, FnHeader, FnSigTys, Handle, Mutability,
+    Part, R, Region, RegionKind, Safety, Ty, TyKind, Tys, UintTy,
 };
 use ir_laws::{Keyword, Word};
 

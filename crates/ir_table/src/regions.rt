@@ -8,8 +8,8 @@ ghost use Rattle.std.specs.Prelude.{◌≡◌};
 use crate::above::region_own;
 use crate::split::region_node;
 use crate::store::Store;
-use crate::{Handle, Intern, Interner};
-use ir_core::{Part, R, Region, RegionKind};
+use crate::{Intern, Interner};
+use ir_core::{R, Region, RegionKind};
 
 impl Store {
     // The region of the kind.
@@ -20,25 +20,15 @@ impl Store {
         self.asked = self.asked.saturating_add(1);
         if let Some(index) = self.tables.regions.find(&kind) {
             return Ok(Region {
-                position: index as u32,
+                index: index as u32,
             });
         }
         let cached = self.admit(self.above_node(region_own(kind), &region_node(kind)))?;
         let index = self.tables.regions.len();
         self.tables.regions.push(kind, cached)?;
         Ok(Region {
-            position: index as u32,
+            index: index as u32,
         })
-    }
-}
-
-impl Handle for Region {
-    ghost part = { part.Region };
-
-    ghost part_injective = { λ x y e. Prim.cc e };
-
-    fn as_part(self) -> Part {
-        Part::Region(self)
     }
 }
 
@@ -52,10 +42,6 @@ impl Intern for Region {
     }
 
     fn kind(self, cx: &Interner) -> RegionKind {
-        cx.store.tables.regions.get(self.position as usize).0
-    }
-
-    fn holds(self, cx: &Interner) -> bool {
-        (self.position as usize) < cx.store.tables.regions.len()
+        cx.store.tables.regions.get(self.index as usize).0
     }
 }

@@ -24,9 +24,6 @@ use ir_core::{
 use ir_laws::Part as Place;
 use std::alloc::Global;
 
-#[cfg(test)]
-mod tests;
-
 /// Puts the spelling of the term behind the text, with the items' names; an item without a name is `?`. It is refused only for want of memory, and the text is then as it was.
 pub fn spell<N: Names>(
     alloc: Global,

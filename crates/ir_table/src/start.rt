@@ -120,21 +120,21 @@ impl Store {
     {
         let tys = self.tys(&[])?;
         let generic_args = GenericArgs {
-            position: self.empty_list(EmptyList::GenericArgs)?,
+            index: self.empty_list(EmptyList::GenericArgs)?,
         };
         let pat_list = PatList {
-            position: self.empty_list(EmptyList::PatList)?,
+            index: self.empty_list(EmptyList::PatList)?,
         };
         let bound_existential_predicates = BoundExistentialPredicates {
-            position: self.empty_list(EmptyList::BoundExistentialPredicates)?,
+            index: self.empty_list(EmptyList::BoundExistentialPredicates)?,
         };
         let clauses = Clauses {
-            position: self.empty_list(EmptyList::Clauses)?,
+            index: self.empty_list(EmptyList::Clauses)?,
         };
         let bound_var_kinds = self.variables(&[])?;
         let variances = self.variances(&[])?;
         let region_assumptions = RegionAssumptions {
-            position: self.empty_list(EmptyList::RegionAssumptions)?,
+            index: self.empty_list(EmptyList::RegionAssumptions)?,
         };
         Ok(DefaultEmpty {
             tys,

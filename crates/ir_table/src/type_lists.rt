@@ -8,8 +8,8 @@ ghost use Rattle.ir_table.specs.State.{NewAnswers};
 ghost use Rattle.std.specs.Prelude.{◌≡◌, ◌++◌, ◌<◌, [], ◌∷◌, length, List};
 
 use crate::store::Store;
-use crate::{Handle, InternList, Interner, ListKey};
-use ir_core::{Part, R, Ty, Tys};
+use crate::{InternList, Interner, ListKey};
+use ir_core::{R, Ty, Tys};
 use smallvec::SmallVec;
 
 impl Store {
@@ -23,25 +23,15 @@ impl Store {
         let key = <SmallVec<Ty, 8> as ListKey>::from_slice(self.alloc, items)?;
         if let Some(index) = self.tables.type_lists.find(&key) {
             return Ok(Tys {
-                position: index as u32,
+                index: index as u32,
             });
         }
         let cached = self.admit(self.above_tys(items))?;
         let index = self.tables.type_lists.len();
         self.tables.type_lists.push(key, cached)?;
         Ok(Tys {
-            position: index as u32,
+            index: index as u32,
         })
-    }
-}
-
-impl Handle for Tys {
-    ghost part = { part.Tys };
-
-    ghost part_injective = { λ x y e. Prim.cc e };
-
-    fn as_part(self) -> Part {
-        Part::Tys(self)
     }
 }
 
@@ -59,7 +49,7 @@ impl InternList for Tys {
     }
 
     fn as_slice<'a>(self, cx: &'a Interner) -> &'a [Ty] {
-        cx.store.tables.type_lists.get(self.position as usize)
+        cx.store.tables.type_lists.get(self.index as usize)
     }
 
     fn len(self, cx: &Interner) -> usize {
@@ -68,10 +58,6 @@ impl InternList for Tys {
 
     fn is_empty(self, cx: &Interner) -> bool {
         self.as_slice(cx).is_empty()
-    }
-
-    fn holds(self, cx: &Interner) -> bool {
-        (self.position as usize) < cx.store.tables.type_lists.len()
     }
 }
 

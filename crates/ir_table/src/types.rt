@@ -9,8 +9,8 @@ ghost use Rattle.std.specs.Prelude.{◌≡◌};
 use crate::above::ty_own;
 use crate::split::ty_node;
 use crate::store::Store;
-use crate::{Handle, Intern, Interner};
-use ir_core::{Part, R, Ty, TyKind};
+use crate::{Intern, Interner};
+use ir_core::{R, Ty, TyKind};
 
 impl Store {
     // The type of the kind.
@@ -22,25 +22,15 @@ impl Store {
         self.asked = self.asked.saturating_add(1);
         if let Some(index) = self.tables.tys.find(&kind) {
             return Ok(Ty {
-                position: index as u32,
+                index: index as u32,
             });
         }
         let cached = self.admit(self.above_node(ty_own(kind), &ty_node(kind)))?;
         let index = self.tables.tys.len();
         self.tables.tys.push(kind, cached)?;
         Ok(Ty {
-            position: index as u32,
+            index: index as u32,
         })
-    }
-}
-
-impl Handle for Ty {
-    ghost part = { part.Ty };
-
-    ghost part_injective = { λ x y e. Prim.cc e };
-
-    fn as_part(self) -> Part {
-        Part::Ty(self)
     }
 }
 
@@ -54,10 +44,6 @@ impl Intern for Ty {
     }
 
     fn kind(self, cx: &Interner) -> TyKind {
-        cx.store.tables.tys.get(self.position as usize).0
-    }
-
-    fn holds(self, cx: &Interner) -> bool {
-        (self.position as usize) < cx.store.tables.tys.len()
+        cx.store.tables.tys.get(self.index as usize).0
     }
 }

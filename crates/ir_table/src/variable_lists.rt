@@ -9,8 +9,8 @@ ghost use Rattle.std.specs.Prelude.{◌≡◌, []};
 
 use crate::above::Above;
 use crate::store::Store;
-use crate::{Cached, Handle, InternList, Interner, ListKey};
-use ir_core::{Binder, BoundVarKind, BoundVarKinds, Part, R};
+use crate::{Cached, InternList, Interner, ListKey};
+use ir_core::{Binder, BoundVarKind, BoundVarKinds, R};
 use smallvec::SmallVec;
 
 impl Store {
@@ -23,25 +23,15 @@ impl Store {
         let key = <SmallVec<BoundVarKind, 8> as ListKey>::from_slice(self.alloc, items)?;
         if let Some(index) = self.tables.variable_lists.find(&key) {
             return Ok(BoundVarKinds {
-                position: index as u32,
+                index: index as u32,
             });
         }
         let cached = self.admit(Above::leaf())?;
         let index = self.tables.variable_lists.len();
         self.tables.variable_lists.push(key, cached)?;
         Ok(BoundVarKinds {
-            position: index as u32,
+            index: index as u32,
         })
-    }
-}
-
-impl Handle for BoundVarKinds {
-    ghost part = { part.BoundVarKinds };
-
-    ghost part_injective = { λ x y e. Prim.cc e };
-
-    fn as_part(self) -> Part {
-        Part::BoundVarKinds(self)
     }
 }
 
@@ -59,7 +49,7 @@ impl InternList for BoundVarKinds {
     }
 
     fn as_slice<'a>(self, cx: &'a Interner) -> &'a [BoundVarKind] {
-        cx.store.tables.variable_lists.get(self.position as usize)
+        cx.store.tables.variable_lists.get(self.index as usize)
     }
 
     fn len(self, cx: &Interner) -> usize {
@@ -68,10 +58,6 @@ impl InternList for BoundVarKinds {
 
     fn is_empty(self, cx: &Interner) -> bool {
         self.as_slice(cx).is_empty()
-    }
-
-    fn holds(self, cx: &Interner) -> bool {
-        (self.position as usize) < cx.store.tables.variable_lists.len()
     }
 }
 

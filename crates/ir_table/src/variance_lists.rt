@@ -7,8 +7,8 @@ ghost use Rattle.std.specs.Prelude.{◌≡◌};
 
 use crate::above::Above;
 use crate::store::Store;
-use crate::{Handle, InternList, Interner, ListKey};
-use ir_core::{Part, R, Variance, VariancesOf};
+use crate::{InternList, Interner, ListKey};
+use ir_core::{R, Variance, VariancesOf};
 use smallvec::SmallVec;
 
 impl Store {
@@ -21,25 +21,15 @@ impl Store {
         let key = <SmallVec<Variance, 8> as ListKey>::from_slice(self.alloc, items)?;
         if let Some(index) = self.tables.variance_lists.find(&key) {
             return Ok(VariancesOf {
-                position: index as u32,
+                index: index as u32,
             });
         }
         let cached = self.admit(Above::leaf())?;
         let index = self.tables.variance_lists.len();
         self.tables.variance_lists.push(key, cached)?;
         Ok(VariancesOf {
-            position: index as u32,
+            index: index as u32,
         })
-    }
-}
-
-impl Handle for VariancesOf {
-    ghost part = { part.VariancesOf };
-
-    ghost part_injective = { λ x y e. Prim.cc e };
-
-    fn as_part(self) -> Part {
-        Part::VariancesOf(self)
     }
 }
 
@@ -57,7 +47,7 @@ impl InternList for VariancesOf {
     }
 
     fn as_slice<'a>(self, cx: &'a Interner) -> &'a [Variance] {
-        cx.store.tables.variance_lists.get(self.position as usize)
+        cx.store.tables.variance_lists.get(self.index as usize)
     }
 
     fn len(self, cx: &Interner) -> usize {
@@ -66,9 +56,5 @@ impl InternList for VariancesOf {
 
     fn is_empty(self, cx: &Interner) -> bool {
         self.as_slice(cx).is_empty()
-    }
-
-    fn holds(self, cx: &Interner) -> bool {
-        (self.position as usize) < cx.store.tables.variance_lists.len()
     }
 }

@@ -15,28 +15,29 @@ fn ran(alloc: Global, script: &[u8], room: usize) -> Result<(Ended, SureSink), F
 }
 
 #[test]
-fn a_script_is_answered(rt: HostRuntime) -> Result<(), Fail> {
-    let (ended, sink) = ran(rt.alloc(), b"print u8\nprint static", 64)?;
-    assert_eq!(rt; ended.status, Status::Done);
-    assert_eq!(rt; sink.held(), b"u8\nstatic\n".as_slice());
-    assert!(rt; ended.cx.is_some());
-    Ok(())
-}
-
-#[test]
-fn a_script_is_refused_by_its_first_fault(rt: HostRuntime) -> Result<(), Fail> {
-    let (ended, sink) = ran(rt.alloc(), b"print u8\nprint X", 64)?;
-    assert_eq!(rt; ended.status, Status::Refused);
-    assert_eq!(rt; sink.held(), b"error line 2 Unknown\n".as_slice());
-    assert!(rt; ended.cx.is_none());
-    Ok(())
-}
-
-#[test]
-fn a_full_sink_is_a_fault(rt: HostRuntime) -> Result<(), Fail> {
-    let (ended, sink) = ran(rt.alloc(), b"print u8\nprint static", 4)?;
-    assert_eq!(rt; ended.status, Status::WriteFault);
-    assert_eq!(rt; sink.held(), b"u8\ns".as_slice());
+fn scripts_are_answered_or_refused(rt: HostRuntime) -> Result<(), Fail> {
+    let rows: [(&[u8], usize, Status, &[u8]); 5] = [
+        (b"print u8\nprint static", 64, Status::Done, b"u8\nstatic\n"),
+        (
+            b"print u8\nprint X",
+            64,
+            Status::Refused,
+            b"error line 2 Unknown\n",
+        ),
+        (b"print u8\nprint static", 4, Status::WriteFault, b"u8\ns"),
+        (
+            b"print \xc3\xa9",
+            64,
+            Status::Refused,
+            b"error line 1 Syntax\n",
+        ),
+        (ONE_PRINT, 4, Status::WriteFault, b"(ref"),
+    ];
+    for (script, room, status, written) in rows {
+        let (ended, sink) = ran(rt.alloc(), script, room)?;
+        assert_eq!(rt; ended.status, status);
+        assert_eq!(rt; sink.held(), written);
+    }
     Ok(())
 }
 
@@ -103,17 +104,6 @@ fn pieces_of_any_length_are_read_and_written(rt: HostRuntime) -> Result<(), Fail
         assert_eq!(rt; read_by(rt.alloc(), piece, 0)?, (Status::Done, 20));
         assert_eq!(rt; written_by(rt.alloc(), piece, 0)?, (Status::Done, 20));
     }
-    Ok(())
-}
-
-#[test]
-fn bytes_that_are_no_script_are_refused(rt: HostRuntime) -> Result<(), Fail> {
-    let (ended, sink) = ran(rt.alloc(), b"print \xc3\xa9", 64)?;
-    assert_eq!(rt; ended.status, Status::Refused);
-    assert_eq!(rt; sink.held(), b"error line 1 Syntax\n".as_slice());
-    let (ended, sink) = ran(rt.alloc(), b"print (ref not static u8)", 4)?;
-    assert_eq!(rt; ended.status, Status::WriteFault);
-    assert_eq!(rt; sink.held(), b"(ref".as_slice());
     Ok(())
 }
 

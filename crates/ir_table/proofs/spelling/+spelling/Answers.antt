@@ -150,9 +150,9 @@ spell_tys-loop-ty-init g t c = record {
 
 pub spell_tys-spell_part-requires-in-loop-ty : goal.spell_tys-spell_part-requires-in-loop-ty
 spell_tys-spell_part-requires-in-loop-ty g t c κs within =
-    let kid = rest_kid (heap c.args.cx.now) c.args.tys.now (record { position = 0 }) c.in-len1-up.len_at_least c.requires c.loop-ty.ty-index c.loop-ty-test.true in
+    let kid = rest_kid (heap c.args.cx.now) c.args.tys.now (record { index = 0 }) c.in-len1-up.len_at_least c.requires c.loop-ty.ty-index c.loop-ty-test.true in
     let low = kid.1 in
-    let lower : 3 * cached_height (heap c.args.cx.now) (part.Ty (get_or (take (length c.args.tys.now - 1) (drop 1 c.args.tys.now)) c.loop-ty.ty-index (record { position = 0 }))) < 3 * largest (cached_height (heap c.args.cx.now)) (tys_kids c.args.tys.now) + 1 = omega arith in
+    let lower : 3 * cached_height (heap c.args.cx.now) (part.Ty (get_or (take (length c.args.tys.now - 1) (drop 1 c.args.tys.now)) c.loop-ty.ty-index (record { index = 0 }))) < 3 * largest (cached_height (heap c.args.cx.now)) (tys_kids c.args.tys.now) + 1 = omega arith in
     search (rules, lower, kid.0)
 
 pub spell_tys-returns-in_err-spell_part-2-clause-err : goal.spell_tys-returns-in_err-spell_part-2-clause-err
@@ -164,7 +164,7 @@ spell_tys-returns-in_err-spell_part-2-clause-err g t c =
 pub spell_tys-loop-ty-preserved : goal.spell_tys-loop-ty-preserved
 spell_tys-loop-ty-preserved g t c = record {
   whole = item_step (λ p. spelling (name_text (g.N.Names.named c.args.names.now)) (tree_of (heap c.args.cx.now) p)) part.Ty c.loop-ty.out c.append-in-loop-ty.new.self c.spell_part-in-loop-ty.new.out _
-      (take (length c.args.tys.now - 1) (drop 1 c.args.tys.now)) c.loop-ty.ty-index (record { position = 0 }) c.loop-ty-test.true c.in_ok-append-2.ensures.ok c.in_ok-spell_part-2.ensures.ok c.loop-ty.invariant.whole;
+      (take (length c.args.tys.now - 1) (drop 1 c.args.tys.now)) c.loop-ty.ty-index (record { index = 0 }) c.loop-ty-test.true c.in_ok-append-2.ensures.ok c.in_ok-spell_part-2.ensures.ok c.loop-ty.invariant.whole;
   begins = begins_more c.args.out.now c.append-in-loop-ty.new.self _ c.spell_part-in-loop-ty.new.out
       (begins_more c.args.out.now c.loop-ty.out _ c.append-in-loop-ty.new.self c.loop-ty.invariant.begins c.in_ok-append-2.ensures.ok) c.in_ok-spell_part-2.ensures.ok;
 }

@@ -8,4 +8,4 @@ slice_bounds-result-count c = let some = some_types c.args.cx.now c.args.tys c.r
 pub returns : goal.returns
 returns c =
     let all = c.as_slice-all.result.now in
-    (get_or all (length all - 1) (record { position = 0 }), front_then_last c.args.cx.now c.args.tys c.requires.some all c.as_slice-all.ensures)
+    (get_or all (length all - 1) (record { index = 0 }), front_then_last c.args.cx.now c.args.tys c.requires.some all c.as_slice-all.ensures)

@@ -5,4 +5,5 @@ abbrev pub invariant-loop-item : goal.invariant-loop-item
 invariant-loop-item g l =
     (goal.iterator-loop-item g).can_next l.item-iterator ×
     (goal.iterator-loop-item g).is_finite l.item-iterator ×
-    (l.yielded ≡ map Ok l.all.items)
+    (l.yielded ≡ map Ok l.all.items) ×
+    (l.cx ≡ l.fn.cx)

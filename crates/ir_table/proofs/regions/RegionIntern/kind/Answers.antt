@@ -6,7 +6,7 @@ use Rattle.ir_table.proofs.regions.RegionIntern.kind.Goals as goal
 
 pub get-requires : goal.get-requires
 unfolding heap_of
-get-requires c = live_within (sketch_of region_layer) c.args.cx.now.store.tables.regions c.args.self.position c.requires
+get-requires c = live_within (sketch_of region_layer) c.args.cx.now.store.tables.regions c.args.self.index c.requires
 
 pub returns : goal.returns
-returns c = node_at (region_sort c.args.cx.now.store.tables c.args.cx.now.store.limits) c.args.cx.now.store.tables.regions c.args.cx.now.store.sound c.args.self.position c.get.result.0 c.get.result.1 c.get.ensures
+returns c = node_at (region_sort c.args.cx.now.store.tables c.args.cx.now.store.limits) c.args.cx.now.store.tables.regions c.args.cx.now.store.sound c.args.self.index c.get.result.0 c.get.result.1 c.get.ensures

@@ -13,18 +13,18 @@ pub loop-ty-init : goal.loop-ty-init
 loop-ty-init c = let h = c.begin-above.ensures.height in let s = c.begin-above.ensures.size in record { live = c.requires; low = omega arith; capped = omega arith; rest = λ b w. w }
 
 pub with_kid-above-requires-clause-live : goal.with_kid-above-requires-clause-live
-with_kid-above-requires-clause-live c = item_head part.Ty c.args.tys.now c.loop-ty.ty-index (record { position = 0 }) c.loop-ty-test.true (IsLive (heap_of c.args.self.now.tables)) c.loop-ty.invariant.live
+with_kid-above-requires-clause-live c = item_head part.Ty c.args.tys.now c.loop-ty.ty-index (record { index = 0 }) c.loop-ty-test.true (IsLive (heap_of c.args.self.now.tables)) c.loop-ty.invariant.live
 
 pub with_kid-above-requires-clause-low : goal.with_kid-above-requires-clause-low
 with_kid-above-requires-clause-low c = c.loop-ty.invariant.low
 
 pub loop-ty-preserved : goal.loop-ty-preserved
 loop-ty-preserved c = record {
-  live = item_tail part.Ty c.args.tys.now c.loop-ty.ty-index (record { position = 0 }) c.loop-ty-test.true (IsLive (heap_of c.args.self.now.tables)) c.loop-ty.invariant.live;
+  live = item_tail part.Ty c.args.tys.now c.loop-ty.ty-index (record { index = 0 }) c.loop-ty-test.true (IsLive (heap_of c.args.self.now.tables)) c.loop-ty.invariant.live;
   low = c.with_kid-above.ensures.low;
   capped = c.with_kid-above.ensures.capped;
   rest = λ b w. c.loop-ty.invariant.rest b (subst (λ ps. WithKids (heap_of c.args.self.now.tables) ps c.loop-ty.above b)
-      (sym (item_rest part.Ty c.args.tys.now c.loop-ty.ty-index (record { position = 0 }) c.loop-ty-test.true (λ ps. ps)))
+      (sym (item_rest part.Ty c.args.tys.now c.loop-ty.ty-index (record { index = 0 }) c.loop-ty-test.true (λ ps. ps)))
       (with_then (heap_of c.args.self.now.tables) _ _ c.loop-ty.above c.with_kid-above.result b c.with_kid-above.ensures.kid w));
 }
 

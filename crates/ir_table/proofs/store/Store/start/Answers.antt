@@ -39,7 +39,7 @@ returns-in_err-compounds-clause-makes c =
 
 pub start_compounds-requires-clause-str : goal.start_compounds-requires-clause-str
 start_compounds-requires-clause-str c =
-    let here = name_at (heap_of c.start_leaf_types.new.self.tables) c.in_ok-leaves.leaves leaf_types 18 (record { position = 0 }) nothing c.in_ok-leaves.ensures.names (omega arith) (omega arith) in
+    let here = name_at (heap_of c.start_leaf_types.new.self.tables) c.in_ok-leaves.leaves leaf_types 18 (record { index = 0 }) nothing c.in_ok-leaves.ensures.names (omega arith) (omega arith) in
     let consts = names_later c.in_ok-consts.ensures.makes.grows _ here in
     let regions = names_later c.in_ok-regions.ensures.makes.grows _ consts in
     let empty = names_later c.in_ok-empty.ensures.makes.grows _ regions in

@@ -77,8 +77,8 @@ module _ (types : List Ty) (i : ℕ) (d : TyKind) (all : length types ≡ 21) (w
   leaf_refused : {old : State} {mid : Store} {e : TermError} {V : Type 0} (new : Store) (r : Result V TermError) → Made old mid (name_each (take i types) leaf_types) → NewAnswers part.Ty (stored mid) (stored new) (ty_layer (get_or kinds i d)) (Err e) → IsErrAnd r (λ x. x ≡ e)
       → Makes old (stored new) leaf_types r
   leaf_refused {mid = mid} {e = e} new r so_far a is = refused_within so_far [] tt r (subst (λ l. NewAnswers part.Ty (stored mid) (stored new) l (Err e)) alone a) is
-      (λ t m. named_among (take i types ++ record { position = 0 } ∷ []) leaf_types t
-      (ap (λ ts. is_part ts t) (ap trees_of (sym (next (record { position = 0 }))) ∙ map-append (λ (n : Named). n.1) (name_each (take i types) leaf_types) _) ∙ m))
+      (λ t m. named_among (take i types ++ record { index = 0 } ∷ []) leaf_types t
+      (ap (λ ts. is_part ts t) (ap trees_of (sym (next (record { index = 0 }))) ∙ map-append (λ (n : Named). n.1) (name_each (take i types) leaf_types) _) ∙ m))
 
 pub returns-in_err-types-clause-makes : goal.returns-in_err-types-clause-makes
 returns-in_err-types-clause-makes c = leaf_refused c.loop-index.types c.loop-index.index _ c.loop-index.invariant.all c.loop-index-test.true c.ty.new.self c.from_residual.result c.loop-index.invariant.made c.in_err-types.ensures.answers c.from_residual.ensures.1

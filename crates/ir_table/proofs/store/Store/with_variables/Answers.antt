@@ -17,7 +17,7 @@ unfolding heap_of
 get-count-requires c =
     let live : Each (IsLive (heap_of c.args.self.now.tables)) (with_binder (Some (part.BoundVarKinds c.in-Some.variables)) (kids_of c.args.node.now.kids)) =
     subst (λ o. Each (IsLive (heap_of c.args.self.now.tables)) (with_binder (option_map part.BoundVarKinds o) (kids_of c.args.node.now.kids))) c.in-Some.is c.requires in
-    live_within (sketch_of variables_layer) c.args.self.now.tables.variable_lists c.in-Some.variables.position live.0
+    live_within (sketch_of variables_layer) c.args.self.now.tables.variable_lists c.in-Some.variables.index live.0
 
 pub returns-clause-variables : goal.returns-clause-variables
 returns-clause-variables c =

@@ -6,7 +6,7 @@ use Rattle.ir_table.proofs.variance_lists.VariancesOfInternList.as_slice.Goals a
 
 pub get-requires : goal.get-requires
 unfolding heap_of
-get-requires c = live_within (sketch_of variances_layer) c.args.cx.now.store.tables.variance_lists c.args.self.position c.requires
+get-requires c = live_within (sketch_of variances_layer) c.args.cx.now.store.tables.variance_lists c.args.self.index c.requires
 
 pub returns : goal.returns
-returns c = node_at_list (variances_sort c.args.cx.now.store.tables c.args.cx.now.store.limits) c.args.cx.now.store.tables.variance_lists c.args.cx.now.store.sound c.args.self.position c.get.result.now c.get.ensures
+returns c = node_at_list (variances_sort c.args.cx.now.store.tables c.args.cx.now.store.limits) c.args.cx.now.store.tables.variance_lists c.args.cx.now.store.sound c.args.self.index c.get.result.now c.get.ensures

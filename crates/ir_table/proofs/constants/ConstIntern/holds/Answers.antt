@@ -1,7 +1,0 @@
-use Rattle.ir_table.specs.Kinds.{heap_of, const_layer, sketch_of}
-use Rattle.ir_table.proofs.PartLemmas.{holds_iff}
-use Rattle.ir_table.proofs.constants.ConstIntern.holds.Goals as goal
-
-pub returns : goal.returns
-unfolding heap_of
-returns c = holds_iff (sketch_of const_layer) c.args.cx.now.store.tables.consts c.args.self.position c.len.result c.len.ensures

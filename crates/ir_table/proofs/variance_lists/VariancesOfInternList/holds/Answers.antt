@@ -1,7 +1,0 @@
-use Rattle.ir_table.specs.Kinds.{heap_of, variances_layer, sketch_of}
-use Rattle.ir_table.proofs.PartLemmas.{holds_iff}
-use Rattle.ir_table.proofs.variance_lists.VariancesOfInternList.holds.Goals as goal
-
-pub returns : goal.returns
-unfolding heap_of
-returns c = holds_iff (sketch_of variances_layer) c.args.cx.now.store.tables.variance_lists c.args.self.position c.len.result c.len.ensures
