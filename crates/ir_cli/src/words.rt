@@ -1,4 +1,6 @@
 //! The words of the command line.
+ghost use Rattle.std.specs.Prelude.{◌≡◌, Err, OnErr};
+
 use ir_core::{R, TermError, Text};
 use std::alloc::Global;
 use std::env::{Env, FillError};
@@ -6,8 +8,10 @@ use std::env::{Env, FillError};
 // Room for a word: a longer one is read again with more. No system passes one that is longer than the last.
 const ROOMS: [usize; 4] = [256, 65_536, 16_777_216, 4_294_967_296];
 
-/// The words after the program's name, as they are. One that is no text is `?`. They are refused only for want of memory. No contract says what words there are, since the environment tells none.
-pub fn words<E: Env>(alloc: Global, env: &E) -> R<Vec<Text>> {
+/// The words after the program's name, as they are. One that is no text is `?`. They are refused only for want of memory. Nothing says what words there are, since the environment tells none.
+pub fn words<E: Env>(alloc: Global, env: &E) -> R<Vec<Text>>
+    ensures { OnErr result (result ≡ Err TermError.Memory) }
+{
     let mut words = Vec::new(alloc);
     for place in 1..usize::MAX {
         let Some(word) = word_at(alloc, env, place)? else {
@@ -19,7 +23,9 @@ pub fn words<E: Env>(alloc: Global, env: &E) -> R<Vec<Text>> {
 }
 
 // The word at the place, where there is one.
-fn word_at<E: Env>(alloc: Global, env: &E, place: usize) -> R<Option<Text>> {
+fn word_at<E: Env>(alloc: Global, env: &E, place: usize) -> R<Option<Text>>
+    ensures { OnErr result (result ≡ Err TermError.Memory) }
+{
     for room in ROOMS {
         let mut buffer = vec![in alloc; 0; room]?;
         match env.arg(place, buffer.as_mut_slice()) {
