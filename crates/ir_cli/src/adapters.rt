@@ -1,5 +1,5 @@
 //! The program's input and output as a source and a sink.
-ghost use Rattle.std.specs.Prelude.{◌≡◌, ◌<◌, ◌≤◌, length, None, IfSome, IfOk};
+ghost use Rattle.std.specs.Prelude.{◌≡◌, ◌+◌, ◌<◌, ◌≤◌, length, None, IfSome, IfOk};
 ghost use Rattle.ir_core.specs.Streams.{Counts, Rose, Reads, Writes, HoldsFront};
 
 use ir_core::{Failed, Sink, Source};
@@ -25,6 +25,8 @@ impl<T: Read> Source for StdinSource<T> {
     ghost left = { λ _. None };
 
     ghost faults = { λ s. s.faults };
+
+    ghost empty_reads = { λ _. 0 };
 
     fn read(&mut self, into: &mut [u8]) -> Result<usize, Failed> {
         let faults = self.faults;

@@ -49,6 +49,8 @@ pub fn read_all<S: Source>(alloc: Global, source: &mut S) -> Result<Vec<u8>, Rea
     ensures fault { result ≡ Err ReadEnd.Fault → Rose (S.faults source.old) (S.faults source.new) }
     ensures too_long { result ≡ Err ReadEnd.TooLong → IsLonger (S.left source.old) 16777216 }
     ensures given { GivesAtMost 16777217 (S.left source.old) (S.left source.new) }
+    ensures turns { S.empty_reads source.new ≤ S.empty_reads source.old + 1 }
+    ensures full { result ≡ Err ReadEnd.TooLong → S.empty_reads source.new ≡ S.empty_reads source.old }
 {
     let mut piece = zeros(alloc, PIECE_LEN)?;
     read_pieces(alloc, source, piece.as_mut_slice())
@@ -75,6 +77,8 @@ fn read_pieces<S: Source>(
     ensures fault { result ≡ Err ReadEnd.Fault → Rose (S.faults source.old) (S.faults source.new) }
     ensures too_long { result ≡ Err ReadEnd.TooLong → IsLonger (S.left source.old) 16777216 }
     ensures given { GivesAtMost 16777217 (S.left source.old) (S.left source.new) }
+    ensures turns { S.empty_reads source.new ≤ S.empty_reads source.old + 1 }
+    ensures full { result ≡ Err ReadEnd.TooLong → S.empty_reads source.new ≡ S.empty_reads source.old }
 {
     let mut bytes = Vec::new(alloc);
     while bytes.len() <= MOST_BYTES {
@@ -98,6 +102,8 @@ fn append_piece<S: Source>(
     ensures len { IfOk result (λ n. vec_len bytes.new ≡ vec_len bytes.old + n) }
     ensures fault { result ≡ Err ReadEnd.Fault → Rose (S.faults source.old) (S.faults source.new) }
     ensures given { GivesAtMost (length piece.old) (S.left source.old) (S.left source.new) }
+    ensures gives { IfOk result (λ n. 0 < n → S.empty_reads source.new ≡ S.empty_reads source.old) }
+    ensures once { S.empty_reads source.new ≤ S.empty_reads source.old + 1 }
     ensures not_long { result ≡ Err ReadEnd.TooLong → ⊥ }
 {
     let taken = source.read(piece)?;

@@ -4,7 +4,7 @@ ghost use Rattle.ir_cli.specs.Run.{HasValid, HoldsTerms, IsAnswered, IsCutShort,
 ghost use Rattle.ir_core.specs.Streams.{HoldsFront, Rose};
 ghost use Rattle.ir_script.specs.Answered.{AllowsFault};
 ghost use Rattle.std.specs.Io.KnownBytes.{append_known};
-ghost use Rattle.std.specs.Prelude.{◌≡◌, ◌≢◌, ◌↔◌, ◌<◌, ◌⊎◌, Err, IfOk, IfSome, IsSome, OnErr, length};
+ghost use Rattle.std.specs.Prelude.{◌≡◌, ◌≢◌, ◌↔◌, ◌+◌, ◌<◌, ◌≤◌, ◌⊎◌, Err, IfOk, IfSome, IsSome, OnErr, length};
 
 use crate::reading::{ReadEnd, read_all};
 use crate::writing::write_all;
@@ -109,6 +109,8 @@ pub fn run<S: Source, K: Sink>(alloc: Global, words: &[Text], source: &mut S, si
     ensures cut_short { result.status ≡ Status.WriteFault → IsCutShort (S.left source.old) (S.left source.new) (K.held sink.old) (K.held sink.new) }
     ensures too_long { result.status ≡ Status.TooLong → IsLonger (S.left source.old) 16777216 }
     ensures given { GivesAtMost 16777217 (S.left source.old) (S.left source.new) }
+    ensures turns { S.empty_reads source.new ≤ S.empty_reads source.old + 1 }
+    ensures full { result.status ≡ Status.TooLong → S.empty_reads source.new ≡ S.empty_reads source.old }
     ensures within { (result.status ≡ Status.Done) ⊎ ((result.status ≡ Status.Refused) ⊎ (result.status ≡ Status.WriteFault)) → IsWithin (S.left source.old) 16777216 }
     ensures whole { K.empty_writes sink.new ≡ K.empty_writes sink.old }
     ensures unwritten { (result.status ≡ Status.ReadFault) ⊎ ((result.status ≡ Status.Memory) ⊎ (result.status ≡ Status.TooLong)) → K.held sink.new ≡ K.held sink.old }

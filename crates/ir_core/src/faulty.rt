@@ -89,6 +89,8 @@ impl Source for MemorySource {
 
     ghost faults = { λ s. s.faults };
 
+    ghost empty_reads = { λ _. 0 };
+
     fn read(&mut self, into: &mut [u8]) -> Result<usize, Failed>
         ensures counts { Counts self.old.faults self.new.faults }
         ensures reads { IfOk result (Reads (Some self.old.left) (Some self.new.left) into.new) }

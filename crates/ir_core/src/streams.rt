@@ -1,5 +1,5 @@
 //! Sources and sinks of bytes, whose calls may fail.
-ghost use Rattle.std.specs.Prelude.{◌≡◌, ℕ, ◌-◌, ◌<◌, ◌≤◌, min, List, [], ◌++◌, length, take, drop, Option, Some, Ok, Err, IfOk, OnOk, OnErr};
+ghost use Rattle.std.specs.Prelude.{◌≡◌, ℕ, ◌+◌, ◌-◌, ◌<◌, ◌≤◌, min, List, [], ◌++◌, length, take, drop, Option, Some, Ok, Err, IfOk, OnOk, OnErr};
 ghost use Rattle.ir_core.specs.Streams.{Counts, Rose, Reads, Writes, HoldsFront, SinkState, rises};
 
 use crate::{R, TermError};
@@ -18,12 +18,17 @@ pub trait Source {
     // How many calls failed. It stands still at its last value, 2^64 - 1.
     ghost faults: { Self → ℕ };
 
+    // How many calls gave no byte. A source need not count them.
+    ghost empty_reads: { Self → ℕ };
+
     /// Moves bytes from the front of what is left to the front of the piece, and says how many. What stands behind them in the piece is not specified. It moves none into a piece with room only at the end, and none when it fails.
     fn read(&mut self, into: &mut [u8]) -> Result<usize, Failed>
         ensures counts { Counts (faults self.old) (faults self.new) }
         ensures ok { IfOk result (Reads (left self.old) (left self.new) into.new) }
         ensures failed { OnErr result (Rose (faults self.old) (faults self.new)) }
-        ensures kept { OnErr result (left self.new ≡ left self.old) };
+        ensures kept { OnErr result (left self.new ≡ left self.old) }
+        ensures gives { IfOk result (λ n. 0 < n → empty_reads self.new ≡ empty_reads self.old) }
+        ensures once { empty_reads self.new ≤ empty_reads self.old + 1 };
 }
 
 /// What bytes go to.
@@ -78,6 +83,8 @@ impl Source for SureSource {
     ghost left = { λ s. Some s };
 
     ghost faults = { λ _. 0 };
+
+    ghost empty_reads = { λ _. 0 };
 
     fn read(&mut self, into: &mut [u8]) -> Result<usize, Failed>
         ensures reads { IfOk result (Reads (Some self.old) (Some self.new) into.new) }

@@ -6,6 +6,7 @@ abbrev pub invariant-loop-bytes : goal.invariant-loop-bytes
 invariant-loop-bytes g l = record {
   has_room : 0 < length l.piece;
   within : vec_len l.bytes ≤ 16777217;
+  turns : g.S.Source.empty_reads l.source ≡ g.S.Source.empty_reads l.fn.source;
   counts : g.S.Source.faults l.fn.source ≤ g.S.Source.faults l.source;
   given : g.S.Source.left l.fn.source ≡ prepend_known l.bytes.items (g.S.Source.left l.source);
 }
