@@ -1,10 +1,17 @@
 //! Handles: small typed numbers, each of which stands for a whole term of an interner.
 ghost use Rattle.ir_core.specs.declared.handles.Part.TheVariants as part;
 ghost use Rattle.ir_core.specs.declared.handles.Part.{Part};
+ghost use Rattle.ir_core.specs.declared.handles.PartSort.{PartSort};
+ghost use Rattle.ir_core.specs.declared.handles.PartSort.TheVariants as sort;
+ghost use Rattle.ir_core.specs.Parts.{index_in, part_at, sort_in};
+ghost use Rattle.std.proofs.Common.{refl};
 ghost use Rattle.std.specs.Prelude.{◌≡◌, ℕ};
 
 /// A handle, which names a part. It borrows nothing from the interner whose part that is, so it is kept as it is.
 pub trait Handle: Copy {
+    // the sort of the parts that such handles name
+    ghost sort: { PartSort };
+
     // its number
     ghost number: { Self → ℕ };
 
@@ -29,6 +36,9 @@ pub trait Handle: Copy {
     // two handles of one part are one handle
     ghost part_injective: { (x y : Self) → part x ≡ part y → x ≡ y };
 
+    // the part is that of its sort and its number
+    ghost part_is: { (x : Self) → part x ≡ part_at sort (number x) };
+
     /// The handle as it is kept: itself.
     final fn store(self) -> Self
         ensures { result ≡ self }
@@ -47,7 +57,7 @@ pub trait Handle: Copy {
 /// A type. The default is the first one, and fills the unused places of a short list.
 #[derive(Clone, Copy, PartialEq, Eq, Hash, Debug, Default)]
 pub struct Ty {
-    /// Where its node stands among the interner's types, counted from 0.
+    /// Where its node stands among the interner's nodes, counted from 0.
     pub index: u32,
 }
 
@@ -55,6 +65,8 @@ pub struct Ty {
 pub type StoredTy = Ty;
 
 impl Handle for Ty {
+    ghost sort = { sort.Ty };
+
     ghost number = { λ h. h.index };
 
     ghost part = { part.Ty };
@@ -62,6 +74,8 @@ impl Handle for Ty {
     ghost number_injective = { λ x y e i. record { index = e i } };
 
     ghost part_injective = { λ x y e. Prim.cc e };
+
+    ghost part_is = { λ x. refl };
 
     fn from_index(n: u32) -> Ty {
         Ty { index: n }
@@ -79,7 +93,7 @@ impl Handle for Ty {
 /// A constant.
 #[derive(Clone, Copy, PartialEq, Eq, Hash, Debug)]
 pub struct Const {
-    /// Where its node stands among the interner's constants, counted from 0.
+    /// Where its node stands among the interner's nodes, counted from 0.
     pub index: u32,
 }
 
@@ -87,6 +101,8 @@ pub struct Const {
 pub type StoredConst = Const;
 
 impl Handle for Const {
+    ghost sort = { sort.Const };
+
     ghost number = { λ h. h.index };
 
     ghost part = { part.Const };
@@ -94,6 +110,8 @@ impl Handle for Const {
     ghost number_injective = { λ x y e i. record { index = e i } };
 
     ghost part_injective = { λ x y e. Prim.cc e };
+
+    ghost part_is = { λ x. refl };
 
     fn from_index(n: u32) -> Const {
         Const { index: n }
@@ -111,7 +129,7 @@ impl Handle for Const {
 /// A region, which is a lifetime.
 #[derive(Clone, Copy, PartialEq, Eq, Hash, Debug)]
 pub struct Region {
-    /// Where its node stands among the interner's regions, counted from 0.
+    /// Where its node stands among the interner's nodes, counted from 0.
     pub index: u32,
 }
 
@@ -119,6 +137,8 @@ pub struct Region {
 pub type StoredRegion = Region;
 
 impl Handle for Region {
+    ghost sort = { sort.Region };
+
     ghost number = { λ h. h.index };
 
     ghost part = { part.Region };
@@ -126,6 +146,8 @@ impl Handle for Region {
     ghost number_injective = { λ x y e i. record { index = e i } };
 
     ghost part_injective = { λ x y e. Prim.cc e };
+
+    ghost part_is = { λ x. refl };
 
     fn from_index(n: u32) -> Region {
         Region { index: n }
@@ -151,6 +173,8 @@ pub struct Tys {
 pub type StoredTys = Tys;
 
 impl Handle for Tys {
+    ghost sort = { sort.Tys };
+
     ghost number = { λ h. h.index };
 
     ghost part = { part.Tys };
@@ -158,6 +182,8 @@ impl Handle for Tys {
     ghost number_injective = { λ x y e i. record { index = e i } };
 
     ghost part_injective = { λ x y e. Prim.cc e };
+
+    ghost part_is = { λ x. refl };
 
     fn from_index(n: u32) -> Tys {
         Tys { index: n }
@@ -183,6 +209,8 @@ pub struct GenericArgs {
 pub type StoredGenericArgs = GenericArgs;
 
 impl Handle for GenericArgs {
+    ghost sort = { sort.GenericArgs };
+
     ghost number = { λ h. h.index };
 
     ghost part = { part.GenericArgs };
@@ -190,6 +218,8 @@ impl Handle for GenericArgs {
     ghost number_injective = { λ x y e i. record { index = e i } };
 
     ghost part_injective = { λ x y e. Prim.cc e };
+
+    ghost part_is = { λ x. refl };
 
     fn from_index(n: u32) -> GenericArgs {
         GenericArgs { index: n }
@@ -215,6 +245,8 @@ pub struct PatList {
 pub type StoredPatList = PatList;
 
 impl Handle for PatList {
+    ghost sort = { sort.PatList };
+
     ghost number = { λ h. h.index };
 
     ghost part = { part.PatList };
@@ -222,6 +254,8 @@ impl Handle for PatList {
     ghost number_injective = { λ x y e i. record { index = e i } };
 
     ghost part_injective = { λ x y e. Prim.cc e };
+
+    ghost part_is = { λ x. refl };
 
     fn from_index(n: u32) -> PatList {
         PatList { index: n }
@@ -247,6 +281,8 @@ pub struct BoundExistentialPredicates {
 pub type StoredBoundExistentialPredicates = BoundExistentialPredicates;
 
 impl Handle for BoundExistentialPredicates {
+    ghost sort = { sort.BoundExistentialPredicates };
+
     ghost number = { λ h. h.index };
 
     ghost part = { part.BoundExistentialPredicates };
@@ -254,6 +290,8 @@ impl Handle for BoundExistentialPredicates {
     ghost number_injective = { λ x y e i. record { index = e i } };
 
     ghost part_injective = { λ x y e. Prim.cc e };
+
+    ghost part_is = { λ x. refl };
 
     fn from_index(n: u32) -> BoundExistentialPredicates {
         BoundExistentialPredicates { index: n }
@@ -279,6 +317,8 @@ pub struct Clauses {
 pub type StoredClauses = Clauses;
 
 impl Handle for Clauses {
+    ghost sort = { sort.Clauses };
+
     ghost number = { λ h. h.index };
 
     ghost part = { part.Clauses };
@@ -286,6 +326,8 @@ impl Handle for Clauses {
     ghost number_injective = { λ x y e i. record { index = e i } };
 
     ghost part_injective = { λ x y e. Prim.cc e };
+
+    ghost part_is = { λ x. refl };
 
     fn from_index(n: u32) -> Clauses {
         Clauses { index: n }
@@ -311,6 +353,8 @@ pub struct RegionAssumptions {
 pub type StoredRegionAssumptions = RegionAssumptions;
 
 impl Handle for RegionAssumptions {
+    ghost sort = { sort.RegionAssumptions };
+
     ghost number = { λ h. h.index };
 
     ghost part = { part.RegionAssumptions };
@@ -318,6 +362,8 @@ impl Handle for RegionAssumptions {
     ghost number_injective = { λ x y e i. record { index = e i } };
 
     ghost part_injective = { λ x y e. Prim.cc e };
+
+    ghost part_is = { λ x. refl };
 
     fn from_index(n: u32) -> RegionAssumptions {
         RegionAssumptions { index: n }
@@ -343,6 +389,8 @@ pub struct BoundVarKinds {
 pub type StoredBoundVarKinds = BoundVarKinds;
 
 impl Handle for BoundVarKinds {
+    ghost sort = { sort.BoundVarKinds };
+
     ghost number = { λ h. h.index };
 
     ghost part = { part.BoundVarKinds };
@@ -350,6 +398,8 @@ impl Handle for BoundVarKinds {
     ghost number_injective = { λ x y e i. record { index = e i } };
 
     ghost part_injective = { λ x y e. Prim.cc e };
+
+    ghost part_is = { λ x. refl };
 
     fn from_index(n: u32) -> BoundVarKinds {
         BoundVarKinds { index: n }
@@ -375,6 +425,8 @@ pub struct VariancesOf {
 pub type StoredVariancesOf = VariancesOf;
 
 impl Handle for VariancesOf {
+    ghost sort = { sort.VariancesOf };
+
     ghost number = { λ h. h.index };
 
     ghost part = { part.VariancesOf };
@@ -382,6 +434,8 @@ impl Handle for VariancesOf {
     ghost number_injective = { λ x y e i. record { index = e i } };
 
     ghost part_injective = { λ x y e. Prim.cc e };
+
+    ghost part_is = { λ x. refl };
 
     fn from_index(n: u32) -> VariancesOf {
         VariancesOf { index: n }
@@ -410,6 +464,83 @@ pub enum Part {
     RegionAssumptions(RegionAssumptions),
     BoundVarKinds(BoundVarKinds),
     VariancesOf(VariancesOf),
+}
+
+/// The sort of a part: which handle names it.
+#[derive(Clone, Copy, PartialEq, Eq, Hash, Debug)]
+pub enum PartSort {
+    Ty,
+    Const,
+    Region,
+    Tys,
+    GenericArgs,
+    PatList,
+    BoundExistentialPredicates,
+    Clauses,
+    RegionAssumptions,
+    BoundVarKinds,
+    VariancesOf,
+}
+
+impl Part {
+    /// Its sort.
+    pub fn sort(self) -> PartSort
+        ensures { result ≡ sort_in self }
+    {
+        match self {
+            Part::Ty(_) => PartSort::Ty,
+            Part::Const(_) => PartSort::Const,
+            Part::Region(_) => PartSort::Region,
+            Part::Tys(_) => PartSort::Tys,
+            Part::GenericArgs(_) => PartSort::GenericArgs,
+            Part::PatList(_) => PartSort::PatList,
+            Part::BoundExistentialPredicates(_) => PartSort::BoundExistentialPredicates,
+            Part::Clauses(_) => PartSort::Clauses,
+            Part::RegionAssumptions(_) => PartSort::RegionAssumptions,
+            Part::BoundVarKinds(_) => PartSort::BoundVarKinds,
+            Part::VariancesOf(_) => PartSort::VariancesOf,
+        }
+    }
+
+    /// Its number among the handles of its sort.
+    pub fn index(self) -> u32
+        ensures { result ≡ index_in self }
+    {
+        match self {
+            Part::Ty(ty) => ty.index,
+            Part::Const(constant) => constant.index,
+            Part::Region(region) => region.index,
+            Part::Tys(list) => list.index,
+            Part::GenericArgs(list) => list.index,
+            Part::PatList(list) => list.index,
+            Part::BoundExistentialPredicates(list) => list.index,
+            Part::Clauses(list) => list.index,
+            Part::RegionAssumptions(list) => list.index,
+            Part::BoundVarKinds(list) => list.index,
+            Part::VariancesOf(list) => list.index,
+        }
+    }
+
+    /// The part of this sort and number. No interner need have it.
+    pub fn at(sort: PartSort, index: u32) -> Part
+        ensures { result ≡ part_at sort index }
+    {
+        match sort {
+            PartSort::Ty => Part::Ty(Ty { index }),
+            PartSort::Const => Part::Const(Const { index }),
+            PartSort::Region => Part::Region(Region { index }),
+            PartSort::Tys => Part::Tys(Tys { index }),
+            PartSort::GenericArgs => Part::GenericArgs(GenericArgs { index }),
+            PartSort::PatList => Part::PatList(PatList { index }),
+            PartSort::BoundExistentialPredicates => {
+                Part::BoundExistentialPredicates(BoundExistentialPredicates { index })
+            }
+            PartSort::Clauses => Part::Clauses(Clauses { index }),
+            PartSort::RegionAssumptions => Part::RegionAssumptions(RegionAssumptions { index }),
+            PartSort::BoundVarKinds => Part::BoundVarKinds(BoundVarKinds { index }),
+            PartSort::VariancesOf => Part::VariancesOf(VariancesOf { index }),
+        }
+    }
 }
 
 #[cfg(test)]

@@ -89,6 +89,26 @@ pub enum SolverDefId {
     Ctor(Ctor),
 }
 
+/// The id of a type that inference has to find.
+#[derive(Clone, Copy, PartialEq, Eq, PartialOrd, Ord, Hash, Debug)]
+pub struct TyVid(pub u32);
+
+/// The id of an integer type that inference has to find.
+#[derive(Clone, Copy, PartialEq, Eq, PartialOrd, Ord, Hash, Debug)]
+pub struct IntVid(pub u32);
+
+/// The id of a floating-point type that inference has to find.
+#[derive(Clone, Copy, PartialEq, Eq, PartialOrd, Ord, Hash, Debug)]
+pub struct FloatVid(pub u32);
+
+/// The id of a constant that inference has to find.
+#[derive(Clone, Copy, PartialEq, Eq, PartialOrd, Ord, Hash, Debug)]
+pub struct ConstVid(pub u32);
+
+/// The id of a region that inference has to find.
+#[derive(Clone, Copy, PartialEq, Eq, PartialOrd, Ord, Hash, Debug)]
+pub struct RegionVid(pub u32);
+
 /// The number of a variable in its binder's list.
 #[derive(Clone, Copy, PartialEq, Eq, PartialOrd, Ord, Hash, Debug)]
 pub struct BoundVar(pub u32);
@@ -100,4 +120,13 @@ pub struct DebruijnIndex(pub u32);
 impl DebruijnIndex {
     /// That of the nearest binder.
     pub const ZERO: DebruijnIndex = DebruijnIndex(0);
+}
+
+/// Which universe a placeholder is of: how many binders that stand for all values were opened before it could be named.
+#[derive(Clone, Copy, PartialEq, Eq, PartialOrd, Ord, Hash, Debug)]
+pub struct UniverseIndex(pub u32);
+
+impl UniverseIndex {
+    /// That of the names from outside of every binder.
+    pub const ROOT: UniverseIndex = UniverseIndex(0);
 }

@@ -1,7 +1,8 @@
 //! Kinds: what a handle stands for, one layer deep.
 use crate::{
-    Binder, BoundConst, BoundRegion, BoundTy, BoundVarIndexKind, FnHeader, FnSigTys, Region, Ty,
-    Tys,
+    Binder, BoundConst, BoundExistentialPredicates, BoundRegion, BoundTy, BoundVarIndexKind, Const,
+    ConstVid, FloatVid, FnHeader, FnSigTys, IntVid, PlaceholderConst, PlaceholderRegion,
+    PlaceholderTy, Region, RegionVid, Ty, TyVid, Tys,
 };
 
 /// A signed integer type.
@@ -46,6 +47,28 @@ pub enum Mutability {
 #[derive(Clone, Copy, PartialEq, Eq, PartialOrd, Ord, Hash, Debug)]
 pub struct ErrorGuaranteed;
 
+/// A type that inference has to find, by which types may stand for it. A fresh one is numbered in its term alone.
+#[derive(Clone, Copy, PartialEq, Eq, Hash, Debug)]
+pub enum InferTy {
+    TyVar(TyVid),
+    IntVar(IntVid),
+    FloatVar(FloatVid),
+    FreshTy(u32),
+    FreshIntTy(u32),
+    FreshFloatTy(u32),
+}
+
+/// A constant that inference has to find. A fresh one is numbered in its term alone.
+#[derive(Clone, Copy, PartialEq, Eq, Hash, Debug)]
+pub enum InferConst {
+    Var(ConstVid),
+    Fresh(u32),
+}
+
+/// Stands for an expression over constants that is not evaluated.
+#[derive(Clone, Copy, PartialEq, Eq, PartialOrd, Ord, Hash, Debug)]
+pub struct ExprConst;
+
 /// What a type is.
 #[derive(Clone, Copy, PartialEq, Eq, Hash, Debug)]
 pub enum TyKind {
@@ -55,13 +78,18 @@ pub enum TyKind {
     Uint(UintTy),
     Float(FloatTy),
     Str,
+    Array(Ty, Const),
+    Slice(Ty),
     RawPtr(Ty, Mutability),
     Ref(Region, Ty, Mutability),
     FnPtr(Binder<FnSigTys>, FnHeader),
     UnsafeBinder(Binder<Ty>),
+    Dynamic(BoundExistentialPredicates, Region),
     Never,
     Tuple(Tys),
     Bound(BoundVarIndexKind, BoundTy),
+    Placeholder(PlaceholderTy),
+    Infer(InferTy),
     Error(ErrorGuaranteed),
 }
 
@@ -70,6 +98,8 @@ pub enum TyKind {
 pub enum RegionKind {
     ReBound(BoundVarIndexKind, BoundRegion),
     ReStatic,
+    ReVar(RegionVid),
+    RePlaceholder(PlaceholderRegion),
     ReErased,
     ReError(ErrorGuaranteed),
 }
@@ -77,8 +107,11 @@ pub enum RegionKind {
 /// What a constant is.
 #[derive(Clone, Copy, PartialEq, Eq, Hash, Debug)]
 pub enum ConstKind {
+    Infer(InferConst),
     Bound(BoundVarIndexKind, BoundConst),
+    Placeholder(PlaceholderConst),
     Error(ErrorGuaranteed),
+    Expr(ExprConst),
 }
 
 /// How a term depends on an argument of it. The default fills the unused places of a short list.

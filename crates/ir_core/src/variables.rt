@@ -4,7 +4,7 @@ ghost use Rattle.ir_core.specs.Variables.{IsRegionVariable, IsTypeVariable, regi
 ghost use Rattle.ir_core.specs.declared.variables.BoundRegionKind.TheVariants.{ClosureEnv};
 ghost use Rattle.ir_core.specs.declared.variables.BoundVarKind.TheVariants as variable;
 
-use crate::{BoundVar, DebruijnIndex, SolverDefId};
+use crate::{BoundVar, DebruijnIndex, SolverDefId, UniverseIndex};
 
 /// Which binder binds a variable.
 #[derive(Clone, Copy, PartialEq, Eq, Hash, Debug)]
@@ -179,6 +179,22 @@ impl BoundConst {
     }
 }
 
+/// What stands for a bound variable once its binder was opened for any value: the universe in which that was, and the variable.
+#[derive(Clone, Copy, PartialEq, Eq, Hash, Debug)]
+pub struct Placeholder<T> {
+    pub universe: UniverseIndex,
+    pub bound: T,
+}
+
+/// A type that stands for any.
+pub type PlaceholderTy = Placeholder<BoundTy>;
+
+/// A region that stands for any.
+pub type PlaceholderRegion = Placeholder<BoundRegion>;
+
+/// A constant that stands for any.
+pub type PlaceholderConst = Placeholder<BoundConst>;
+
 #[cfg(test)]
 mod tests {
     use super::*;
@@ -224,6 +240,17 @@ mod tests {
             BoundVarKind::default().expect_region(),
             BoundRegionKind::ClosureEnv
         );
+    }
+
+    #[test]
+    fn placeholders_are_told_by_their_universe(rt: HostRuntime) {
+        let bound = BoundConst { var: BoundVar(2) };
+        let in_universe = |n: u32| Placeholder {
+            universe: UniverseIndex(n),
+            bound,
+        };
+        assert_eq!(rt; in_universe(0).universe, UniverseIndex::ROOT);
+        assert_ne!(rt; in_universe(0), in_universe(1));
     }
 
     #[test]

@@ -2,7 +2,7 @@
 use Rattle.std.proofs.Common.{◌≡◌, ◌∙◌, sym, ap, true≢false, ℕ, not, Bool, true, false, ◌||◌, List, [], ◌∷◌, find, Option, Some, None, IfSome, option_map, refl, bytes_eq}
 use Rattle.std.specs.Bool.{⊤}
 use Rattle.std.specs.List.{list_all}
-use Rattle.std.proofs.lemmas.Bool.{false≢true, and_from, and_parts, or_left, or_right, cond_both, eq-eqb}
+use Rattle.std.proofs.lemmas.Bool.{false≢true, and_from, and_parts, or_left, or_right, cond_both}
 use Rattle.std.proofs.lemmas.Option.{IfSome_then, MatchOption-at_some}
 use Rattle.ir_laws.specs.declared.words.Word.{Word}
 use Rattle.ir_laws.specs.declared.words.Word.TheVariants.{ArgumentList}
@@ -15,8 +15,8 @@ use Rattle.ir_laws.specs.declared.labels.KidForm.TheVariants.{OneOf, TypeOrConst
 use Rattle.ir_laws.specs.declared.labels.Part.{Part}
 use Rattle.ir_laws.specs.declared.labels.Part.TheVariants.{Fixed, ForGroup, AField, AKid}
 use Rattle.ir_laws.specs.Tree.{Text, Kind, Field, Number, Item, Chosen, OfKind, Memory, Mapped}
-use Rattle.ir_laws.specs.Word.{word_number, same_word, label_words}
-use Rattle.ir_laws.specs.Keyword.{keyword_text, keyword_number, same_keyword, choice_words}
+use Rattle.ir_laws.specs.Word.{same_word, label_words}
+use Rattle.ir_laws.specs.Keyword.{keyword_text, same_keyword, choice_words}
 use Rattle.ir_laws.specs.Label.{row}
 use Rattle.ir_laws.specs.Expression.{Expr, Exprs, Single, Group, NoExpr, ThenExpr}
 use Rattle.ir_laws.specs.Phrase.{Phrase, Phrases, Name, Labelled, NoPhrase, ThenPhrase, kind_of, region_kind_of, and_then, words_of, bind_of, mapped_of, are_rising, memory_field, memory_of, field_of, field_in, no_parts, bare_word, begins, written_word, Fitted, with_field, with_bind, with_kid, list_phrase, cons_phrase, labelled, fields_alone, bare_or_name, phrase_of, fit, phrases_in, phrases_of}
@@ -24,6 +24,7 @@ use Rattle.ir_laws.specs.Numeral.{name_of, number_of, bytes_of_hex}
 use Rattle.ir_laws.specs.Names.{field_forms}
 use Rattle.ir_laws.specs.Sorts.{is_word_among}
 use Rattle.ir_laws.specs.Parts.{has_for_group}
+use Rattle.ir_laws.proofs.SameParts.{word_decides, keyword_decides}
 use Rattle.ir_laws.specs.Formed.{kid_forms, is_keyword_among, field_fits, fields_fit, bind_fits, is_formed, kids_formed, is_list_formed, all_formed}
 
 -- ---- what a search in a list finds
@@ -51,13 +52,13 @@ find-among same among self step p (x ∷ xs) =
     (λ e. IfSome_then (find p xs) (find-among same among self step p xs) (λ y h. rw (step x xs y) (or_right _ _ h)))
 
 same_word_self : (w : Word) → same_word w w ≡ true
-same_word_self w = eq-eqb (word_number w) (word_number w) refl
+same_word_self w = (word_decides w w).1 refl
 
 find-is_word_among : (p : Word → Bool) (ws : List Word) → IfSome (find p ws) (λ w. is_word_among ws w ≡ true)
 find-is_word_among = find-among same_word is_word_among same_word_self (λ y ys x. refl)
 
 find-is_keyword_among : (p : Keyword → Bool) (ks : List Keyword) → IfSome (find p ks) (λ k. is_keyword_among ks k ≡ true)
-find-is_keyword_among = find-among same_keyword is_keyword_among (λ k. eq-eqb (keyword_number k) (keyword_number k) refl) (λ y ys x. refl)
+find-is_keyword_among = find-among same_keyword is_keyword_among (λ k. (keyword_decides k k).1 refl) (λ y ys x. refl)
 
 -- ---- options
 

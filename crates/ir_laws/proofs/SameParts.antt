@@ -8,67 +8,27 @@ use Rattle.ir_core.specs.declared.ids.SolverDefId.{SolverDefId}
 use Rattle.ir_core.specs.declared.ids.SolverDefId.TheVariants as id
 use Rattle.ir_core.specs.declared.ids.AdtId.TheVariants as adt
 use Rattle.ir_core.specs.declared.ids.Ctor.TheVariants as ctor
+use Rattle.ir_laws.specs.contracts.labels.Keyword.{the_type as keyword_type}
+use Rattle.ir_laws.specs.contracts.labels.Sort.{the_type as sort_type}
+use Rattle.ir_laws.specs.contracts.words.Word.{the_type as word_type}
 use Rattle.ir_laws.specs.declared.words.Word.{Word}
 use Rattle.ir_laws.specs.declared.labels.Keyword.{Keyword}
-use Rattle.ir_laws.specs.declared.labels.Keyword.TheVariants.{Not, Mut, Safe, Unsafe, Rust, RustCall, C, System, Fixed, Variadic, Pos, Neg, Const, Maybe, True, False, Equate, Subtype, Covariant, Invariant, Contravariant, Bivariant}
 use Rattle.ir_laws.specs.declared.labels.Sort.{Sort}
-use Rattle.ir_laws.specs.declared.labels.Sort.TheVariants.{OfType, OfRegion, OfConstant, OfPattern, OfPredicate, OfBytes, OfExistential, OfList}
-use Rattle.ir_laws.specs.Word.{word_number, same_word}
-use Rattle.ir_laws.specs.Keyword.{keyword_number, same_keyword}
+use Rattle.ir_laws.specs.Word.{same_word}
+use Rattle.ir_laws.specs.Keyword.{same_keyword}
 use Rattle.ir_laws.specs.Id.{id_kind, id_place, same_id}
 use Rattle.ir_laws.specs.Tree.{KindName, Nameless, Environment, Called, Kind, Mapped, Field, Number, Item, Chosen, OfKind, Memory, Label, Parameter}
-use Rattle.ir_laws.specs.Same.{sort_number, same_sort, same_list, same_kind_name, same_kind, same_mapped, same_field, same_label, same_bind, same_parameter}
-use Rattle.ir_laws.proofs.WordNumbers.{all_words, word_at_its_number}
-use Rattle.ir_laws.proofs.Telling.{decides_by, by_number, and_then_decides, list_decides}
+use Rattle.ir_laws.specs.Same.{same_sort, same_list, same_kind_name, same_kind, same_mapped, same_field, same_label, same_bind, same_parameter}
+use Rattle.ir_laws.proofs.Telling.{decides_by, bare_decides, and_then_decides, list_decides}
 
 pub word_decides : (a b : Word) → Decides (same_word a b) (a ≡ b)
-word_decides = by_number word_number all_words word_at_its_number
-
-abbrev all_keywords : List Keyword
-all_keywords = Not ∷ Mut ∷ Safe ∷ Unsafe ∷ Rust ∷ RustCall ∷ C ∷ System ∷ Fixed ∷ Variadic ∷ Pos ∷ Neg ∷ Const ∷ Maybe ∷ True ∷ False ∷ Equate ∷ Subtype ∷ Covariant ∷ Invariant ∷ Contravariant ∷ Bivariant ∷ []
-
-keyword_at_its_number : (k : Keyword) → slice_get all_keywords (keyword_number k) ≡ Some k
-keyword_at_its_number Not = refl
-keyword_at_its_number Mut = refl
-keyword_at_its_number Safe = refl
-keyword_at_its_number Unsafe = refl
-keyword_at_its_number Rust = refl
-keyword_at_its_number RustCall = refl
-keyword_at_its_number C = refl
-keyword_at_its_number System = refl
-keyword_at_its_number Fixed = refl
-keyword_at_its_number Variadic = refl
-keyword_at_its_number Pos = refl
-keyword_at_its_number Neg = refl
-keyword_at_its_number Const = refl
-keyword_at_its_number Maybe = refl
-keyword_at_its_number True = refl
-keyword_at_its_number False = refl
-keyword_at_its_number Equate = refl
-keyword_at_its_number Subtype = refl
-keyword_at_its_number Covariant = refl
-keyword_at_its_number Invariant = refl
-keyword_at_its_number Contravariant = refl
-keyword_at_its_number Bivariant = refl
+word_decides = bare_decides word_type tt
 
 pub keyword_decides : (a b : Keyword) → Decides (same_keyword a b) (a ≡ b)
-keyword_decides = by_number keyword_number all_keywords keyword_at_its_number
-
-abbrev all_sorts : List Sort
-all_sorts = OfType ∷ OfRegion ∷ OfConstant ∷ OfPattern ∷ OfPredicate ∷ OfBytes ∷ OfExistential ∷ OfList ∷ []
-
-sort_at_its_number : (s : Sort) → slice_get all_sorts (sort_number s) ≡ Some s
-sort_at_its_number OfType = refl
-sort_at_its_number OfRegion = refl
-sort_at_its_number OfConstant = refl
-sort_at_its_number OfPattern = refl
-sort_at_its_number OfPredicate = refl
-sort_at_its_number OfBytes = refl
-sort_at_its_number OfExistential = refl
-sort_at_its_number OfList = refl
+keyword_decides = bare_decides keyword_type tt
 
 pub sort_decides : (a b : Sort) → Decides (same_sort a b) (a ≡ b)
-sort_decides = by_number sort_number all_sorts sort_at_its_number
+sort_decides = bare_decides sort_type tt
 
 -- ---- ids
 

@@ -1,17 +1,18 @@
 -- Tests that tell equality.
-use Rattle.std.proofs.Common.{◌≡◌, ℕ, Bool, true, false, List, [], ◌∷◌, Some, Decides, nat_eq, slice_get, refl, sym, ap, ap₂, subst, ◌∙◌}
+use Rattle.std.proofs.Common.{◌≡◌, Bool, true, false, List, [], ◌∷◌, Decides, refl, sym, ap₂, subst}
 use Rattle.std.proofs.Common.{true≢false}
-use Rattle.std.proofs.lemmas.Bool.{and_parts, and_from, eqb-true, eq-eqb}
-use Rattle.std.proofs.lemmas.Option.{same_Some}
+use Rattle.std.proofs.lemmas.Bool.{and_parts, and_from}
+use denote.Enum.Bare.{Bare, sameb, same_true, true_same}
+use denote.Enum.Declared.{Declared}
 use Rattle.ir_laws.specs.Same.{same_list}
 
 -- a test that holds of equal values alone, and of each value with itself
 pub decides_by : {A : Type 0} (same : A → A → Bool) → ((a b : A) → same a b ≡ true → a ≡ b) → ((a : A) → same a a ≡ true) → (a b : A) → Decides (same a b) (a ≡ b)
 decides_by same exact itself a b = (exact a b, λ e. subst (λ x. same a x ≡ true) e (itself a))
 
--- numbers that lead back to their values
-pub by_number : {A : Type 0} (number : A → ℕ) (all : List A) → ((a : A) → slice_get all (number a) ≡ Some a) → (a b : A) → Decides (nat_eq (number a) (number b)) (a ≡ b)
-by_number number all back a b = (λ e. same_Some a b (sym (back a) ∙ ap (slice_get all) (eqb-true (number a) (number b) e) ∙ back b), λ e. eq-eqb (number a) (number b) (ap number e))
+-- the test on the values of an enum without fields
+pub bare_decides : (D : Declared) → Bare D.parts → (a b : D.D) → Decides (sameb D a b) (a ≡ b)
+bare_decides D bare a b = (same_true D bare a b, true_same D a b)
 
 -- the second test is looked at where the first one holds
 pub and_then_decides : {P Q : Type 0} (x y : Bool) → Decides x P → Decides y Q → Decides (elim x [ true ↦ y | false ↦ false ]) (P × Q)

@@ -1,5 +1,5 @@
 -- The causes for which a line is refused.
-use Rattle.std.specs.Prelude.{ℕ, Bool, false, ◌||◌, List, [], ◌∷◌, filter, codes, nat_eq}
+use Rattle.std.specs.Prelude.{ℕ, Bool, false, ◌||◌, List, [], ◌∷◌, filter, codes, bytes_eq}
 
 -- one for each way in which a line can be none of the language or pass a limit
 pub data Cause : Type 0 where
@@ -31,27 +31,16 @@ cause_text Escapes = codes "Escapes"
 cause_text MissingVar = codes "MissingVar"
 cause_text TooLarge = codes "TooLarge"
 
--- each cause has a number of its own
-abbrev pub cause_number : Cause → ℕ
-cause_number Syntax = 0
-cause_number Unknown = 1
-cause_number Duplicate = 2
-cause_number WrongSort = 3
-cause_number Arity = 4
-cause_number EmptyOr = 5
-cause_number TooDeep = 6
-cause_number TooMany = 7
-cause_number Unlisted = 8
-cause_number Escapes = 9
-cause_number MissingVar = 10
-cause_number TooLarge = 11
+-- two causes are the same where their names are
+abbrev pub same_cause : Cause → Cause → Bool
+same_cause a b = bytes_eq (cause_text a) (cause_text b)
 
 -- whether a cause is in the list
 abbrev pub is_cause_among : List Cause → Cause → Bool
 is_cause_among [] c = false
-is_cause_among (d ∷ ds) c = nat_eq (cause_number d) (cause_number c) || is_cause_among ds c
+is_cause_among (d ∷ ds) c = same_cause d c || is_cause_among ds c
 
--- in the order of their numbers
+-- all causes
 abbrev pub all_causes : List Cause
 all_causes = Syntax ∷ Unknown ∷ Duplicate ∷ WrongSort ∷ Arity ∷ EmptyOr ∷ TooDeep ∷ TooMany ∷ Unlisted ∷ Escapes ∷ MissingVar ∷ TooLarge ∷ []
 

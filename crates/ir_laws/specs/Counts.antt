@@ -4,7 +4,7 @@ use Rattle.ir_core.specs.declared.ids.SolverDefId.{SolverDefId}
 use Rattle.ir_laws.specs.declared.words.Word.{Word}
 use Rattle.ir_laws.specs.declared.words.Word.TheVariants.{BoundVariable, TypeParameter, RegionParameter, ConstantParameter, CanonicalVariable, Placeholder}
 use Rattle.ir_laws.specs.declared.labels.Sort.{Sort}
-use Rattle.ir_laws.specs.declared.labels.Sort.TheVariants.{OfType, OfRegion, OfConstant, OfList}
+use Rattle.ir_laws.specs.declared.labels.Sort.TheVariants.{OfType, OfRegion, OfConstant, OfPattern, OfPredicate, OfBytes, OfExistential, OfList}
 use Rattle.ir_laws.specs.Tree.{Kind, Field, OfKind, Memory, Label, Var, Param, Node, End, And, Term, Terms}
 use Rattle.ir_laws.specs.Word.{same_word}
 use Rattle.ir_laws.specs.Flag.{HAS_TY_BOUND, HAS_RE_BOUND, HAS_CT_BOUND, HAS_TY_PLACEHOLDER, HAS_RE_PLACEHOLDER, HAS_CT_PLACEHOLDER, HAS_FREE_REGIONS, HAS_FREE_LOCAL_REGIONS, HAS_CANONICAL_BOUND, HAS_BINDER_VARS}
@@ -61,20 +61,33 @@ abbrev pub bound_flag : Sort → ℕ
 bound_flag OfType = HAS_TY_BOUND
 bound_flag OfRegion = HAS_RE_BOUND
 bound_flag OfConstant = HAS_CT_BOUND
-bound_flag s = 0
+bound_flag OfPattern = 0
+bound_flag OfPredicate = 0
+bound_flag OfBytes = 0
+bound_flag OfExistential = 0
+bound_flag OfList = 0
 
 -- the flags of a placeholder, by its sort
 abbrev pub placeholder_flags : Sort → ℕ
 placeholder_flags OfType = HAS_TY_PLACEHOLDER
 placeholder_flags OfRegion = HAS_RE_PLACEHOLDER + HAS_FREE_REGIONS + HAS_FREE_LOCAL_REGIONS
 placeholder_flags OfConstant = HAS_CT_PLACEHOLDER
-placeholder_flags s = 0
+placeholder_flags OfPattern = 0
+placeholder_flags OfPredicate = 0
+placeholder_flags OfBytes = 0
+placeholder_flags OfExistential = 0
+placeholder_flags OfList = 0
 
 -- the word of a parameter, by its sort
 abbrev pub parameter_word : Sort → Word
+parameter_word OfType = TypeParameter
 parameter_word OfRegion = RegionParameter
 parameter_word OfConstant = ConstantParameter
-parameter_word s = TypeParameter
+parameter_word OfPattern = TypeParameter
+parameter_word OfPredicate = TypeParameter
+parameter_word OfBytes = TypeParameter
+parameter_word OfExistential = TypeParameter
+parameter_word OfList = TypeParameter
 
 -- the sort of the variable kind among the fields
 abbrev pub sort_of_fields : {N : Type 0} → List (Field N) → Sort

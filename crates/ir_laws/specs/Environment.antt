@@ -72,12 +72,12 @@ kind_in env k = elim (k.name) [
 ]
 
 -- the field with its name looked up
-abbrev pub field_in : Environment → Field Text → Option (Field SolverDefId)
-field_in env (Number n) = Some (Number n)
-field_in env (Item name) = option_map Item (id_of env name)
-field_in env (Chosen word) = Some (Chosen word)
-field_in env (OfKind k) = option_map OfKind (kind_in env k)
-field_in env (Memory bytes mapped) = Some (Memory bytes mapped)
+abbrev pub field_meant : Environment → Field Text → Option (Field SolverDefId)
+field_meant env (Number n) = Some (Number n)
+field_meant env (Item name) = option_map Item (id_of env name)
+field_meant env (Chosen word) = Some (Chosen word)
+field_meant env (OfKind k) = option_map OfKind (kind_in env k)
+field_meant env (Memory bytes mapped) = Some (Memory bytes mapped)
 
 -- the variable list with its names looked up
 abbrev pub bind_in : Environment → Option (List (Kind Text)) → Option (Option (List (Kind SolverDefId)))
@@ -109,7 +109,7 @@ tree_made l b ts = elim (same_word l.word BoundVariable) [
 
 -- the label with the names of its fields looked up
 abbrev pub label_in : Environment → Label Text → Option (Label SolverDefId)
-label_in env l = option_map (λ fs. record { word = l.word; fields = fs }) (each_of (field_in env) l.fields)
+label_in env l = option_map (λ fs. record { word = l.word; fields = fs }) (each_of (field_meant env) l.fields)
 
 -- the tree of a label, its variable list and the trees of its parts
 abbrev pub tree_with : Environment → Label Text → Option (List (Kind Text)) → Option Terms → Option Term
@@ -122,44 +122,44 @@ cons_term t ts = None
 
 -- a name stands for its term as it is; a label has its fields with names looked up, and the trees of its parts
 abbrev mutual
-  pub tree_of : Environment → Phrase → Option Term
-  tree_of env (Name name) = term_named env name
-  tree_of env (Labelled l b ps) = tree_with env l b (trees_of env ps)
+  pub tree_in : Environment → Phrase → Option Term
+  tree_in env (Name name) = term_named env name
+  tree_in env (Labelled l b ps) = tree_with env l b (trees_of env ps)
 
   pub trees_of : Environment → Phrases → Option Terms
   trees_of env NoPhrase = Some End
-  trees_of env (ThenPhrase p ps) = cons_term (tree_of env p) (trees_of env ps)
+  trees_of env (ThenPhrase p ps) = cons_term (tree_in env p) (trees_of env ps)
 
 -- ---- the form with trees
 
 -- a replacement with the tree of its term
 abbrev pub replacement_tree : Environment → Replacement Phrase → Option (Replacement Term)
-replacement_tree env r = option_map (λ t. record { number = r.number; term = t }) (tree_of env r.term)
+replacement_tree env r = option_map (λ t. record { number = r.number; term = t }) (tree_in env r.term)
 
 -- the tree of a term that may be left out
 abbrev pub maybe_tree : Environment → Option Phrase → Option (Option Term)
 maybe_tree env None = Some None
-maybe_tree env (Some p) = option_map Some (tree_of env p)
+maybe_tree env (Some p) = option_map Some (tree_in env p)
 
 -- a declaration with the trees of its terms
 abbrev pub declaration_trees : Environment → Declaration Phrase → Option (Declaration Term)
-declaration_trees env d = and_then (maybe_tree env d.decl) (λ decl. option_map (λ clauses. record { kind = d.kind; name = d.name; parent = d.parent; own = d.own; decl = decl; clauses = clauses }) (each_of (tree_of env) d.clauses))
+declaration_trees env d = and_then (maybe_tree env d.decl) (λ decl. option_map (λ clauses. record { kind = d.kind; name = d.name; parent = d.parent; own = d.own; decl = decl; clauses = clauses }) (each_of (tree_in env) d.clauses))
 
 -- the form with the trees of its terms; none where a name means no term
 abbrev pub form_trees : Environment → Form Phrase → Option (Form Term)
 form_trees env Blank = Some Blank
 form_trees env (Declare d) = option_map Declare (declaration_trees env d)
-form_trees env (Let name p) = option_map (Let name) (tree_of env p)
-form_trees env (Print p) = option_map Print (tree_of env p)
-form_trees env (Same p q) = and_then (tree_of env p) (λ t. option_map (Same t) (tree_of env q))
-form_trees env (Flags p) = option_map Flags (tree_of env p)
-form_trees env (Open p rs) = and_then (tree_of env p) (λ t. option_map (Open t) (each_of (replacement_tree env) rs))
-form_trees env (Subst item ps) = option_map (Subst item) (each_of (tree_of env) ps)
-form_trees env (Shift n p) = option_map (Shift n) (tree_of env p)
-form_trees env (Renumber n p) = option_map (Renumber n) (tree_of env p)
-form_trees env (Anon p) = option_map Anon (tree_of env p)
-form_trees env (Super p q) = and_then (tree_of env p) (λ t. option_map (Super t) (tree_of env q))
-form_trees env (Elab ps) = option_map Elab (each_of (tree_of env) ps)
+form_trees env (Let name p) = option_map (Let name) (tree_in env p)
+form_trees env (Print p) = option_map Print (tree_in env p)
+form_trees env (Same p q) = and_then (tree_in env p) (λ t. option_map (Same t) (tree_in env q))
+form_trees env (Flags p) = option_map Flags (tree_in env p)
+form_trees env (Open p rs) = and_then (tree_in env p) (λ t. option_map (Open t) (each_of (replacement_tree env) rs))
+form_trees env (Subst item ps) = option_map (Subst item) (each_of (tree_in env) ps)
+form_trees env (Shift n p) = option_map (Shift n) (tree_in env p)
+form_trees env (Renumber n p) = option_map (Renumber n) (tree_in env p)
+form_trees env (Anon p) = option_map Anon (tree_in env p)
+form_trees env (Super p q) = and_then (tree_in env p) (λ t. option_map (Super t) (tree_in env q))
+form_trees env (Elab ps) = option_map Elab (each_of (tree_in env) ps)
 
 -- ---- the environment of an item's own line
 

@@ -1,8 +1,9 @@
 -- The forms of a line. T is what stands for a term: a phrase in the grammar, a tree when its names are looked up.
-use Rattle.std.specs.Prelude.{ℕ, Bool, true, false, not, List, [], ◌∷◌, find, Option, Some, None, bytes_eq, codes, option_map}
+use Rattle.std.specs.Prelude.{ℕ, Bool, true, false, ◌||◌, not, List, [], ◌∷◌, find, Option, Some, None, bytes_eq, codes, option_map}
 use Rattle.ir_laws.specs.declared.labels.Sort.{Sort}
 use Rattle.ir_laws.specs.declared.labels.Sort.TheVariants.{OfType, OfRegion, OfConstant}
 use Rattle.ir_laws.specs.Tree.{Text}
+use Rattle.ir_laws.specs.Same.{same_sort}
 use Rattle.ir_laws.specs.declared.items.ItemKind.{ItemKind}
 use Rattle.ir_laws.specs.ItemKind.{item_row, item_kinds}
 use Rattle.ir_laws.specs.Expression.{Expr, Single, Group, expressions, expr_list}
@@ -92,14 +93,12 @@ parameter_in (Group es) = None
 -- whether a region is among these sorts
 abbrev pub has_region : List Sort → Bool
 has_region [] = false
-has_region (OfRegion ∷ ss) = true
-has_region (s ∷ ss) = has_region ss
+has_region (s ∷ ss) = same_sort s OfRegion || has_region ss
 
 -- no region follows a type or a constant
 abbrev pub are_in_order : List Sort → Bool
 are_in_order [] = true
-are_in_order (OfRegion ∷ ss) = are_in_order ss
-are_in_order (s ∷ ss) = not (has_region ss)
+are_in_order (s ∷ ss) = elim (same_sort s OfRegion) [ true ↦ are_in_order ss | false ↦ not (has_region ss) ]
 
 -- the sorts, where regions come first
 abbrev pub if_in_order : List Sort → Option (List Sort)

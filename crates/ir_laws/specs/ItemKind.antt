@@ -1,28 +1,13 @@
 -- The kinds of items, and how each is declared.
-use Rattle.std.specs.Prelude.{ℕ, Bool, true, false, ◌||◌, List, [], ◌∷◌, codes, nat_eq}
+use Rattle.std.specs.Prelude.{ℕ, Bool, true, false, ◌||◌, List, [], ◌∷◌, codes}
+use denote.Enum.Bare.{sameb}
+use Rattle.ir_laws.specs.contracts.items.ItemKind.{the_type}
 use Rattle.ir_laws.specs.declared.items.ItemKind.{ItemKind}
 use Rattle.ir_laws.specs.declared.items.ItemKind.TheVariants.{StructItem, EnumItem, UnionItem, VariantItem, TraitItem, ImplItem, DeriveItem, FnItem, ConstItem, StaticItem, AliasItem, ClosureItem, CoroutineItem, OpaqueItem}
 
--- each kind has a number of its own
-abbrev pub kind_number : ItemKind → ℕ
-kind_number StructItem = 0
-kind_number EnumItem = 1
-kind_number UnionItem = 2
-kind_number VariantItem = 3
-kind_number TraitItem = 4
-kind_number ImplItem = 5
-kind_number DeriveItem = 6
-kind_number FnItem = 7
-kind_number ConstItem = 8
-kind_number StaticItem = 9
-kind_number AliasItem = 10
-kind_number ClosureItem = 11
-kind_number CoroutineItem = 12
-kind_number OpaqueItem = 13
-
--- two kinds are the same where their numbers are
+-- whether two kinds are the same
 abbrev pub same_item_kind : ItemKind → ItemKind → Bool
-same_item_kind a b = nat_eq (kind_number a) (kind_number b)
+same_item_kind = sameb the_type
 
 -- whether a kind is among these
 abbrev pub is_kind_among : List ItemKind → ItemKind → Bool

@@ -1,5 +1,7 @@
 -- The words that a label keeps as fields, those that only stand in it, and where they may stand.
-use Rattle.std.specs.Prelude.{ℕ, Bool, List, [], ◌∷◌, codes, nat_eq}
+use Rattle.std.specs.Prelude.{ℕ, Bool, List, [], ◌∷◌, codes}
+use denote.Enum.Bare.{sameb}
+use Rattle.ir_laws.specs.contracts.labels.Keyword.{the_type}
 use Rattle.ir_laws.specs.declared.labels.Keyword.{Keyword}
 use Rattle.ir_laws.specs.declared.labels.Keyword.TheVariants.{Not, Mut, Safe, Unsafe, Rust, RustCall, C, System, Fixed, Variadic, Pos, Neg, Const, Maybe, True, False, Equate, Subtype, Covariant, Invariant, Contravariant, Bivariant}
 use Rattle.ir_laws.specs.declared.labels.FixedWord.{FixedWord}
@@ -32,34 +34,9 @@ keyword_text Invariant = codes "Invariant"
 keyword_text Contravariant = codes "Contravariant"
 keyword_text Bivariant = codes "Bivariant"
 
--- each keyword has a number of its own
-abbrev pub keyword_number : Keyword → ℕ
-keyword_number Not = 0
-keyword_number Mut = 1
-keyword_number Safe = 2
-keyword_number Unsafe = 3
-keyword_number Rust = 4
-keyword_number RustCall = 5
-keyword_number C = 6
-keyword_number System = 7
-keyword_number Fixed = 8
-keyword_number Variadic = 9
-keyword_number Pos = 10
-keyword_number Neg = 11
-keyword_number Const = 12
-keyword_number Maybe = 13
-keyword_number True = 14
-keyword_number False = 15
-keyword_number Equate = 16
-keyword_number Subtype = 17
-keyword_number Covariant = 18
-keyword_number Invariant = 19
-keyword_number Contravariant = 20
-keyword_number Bivariant = 21
-
--- two keywords are the same where their numbers are
+-- whether two keywords are the same
 abbrev pub same_keyword : Keyword → Keyword → Bool
-same_keyword a b = nat_eq (keyword_number a) (keyword_number b)
+same_keyword = sameb the_type
 
 -- how a fixed word is written
 abbrev pub fixed_text : FixedWord → List ℕ

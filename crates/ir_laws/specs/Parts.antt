@@ -6,7 +6,7 @@ use Rattle.ir_laws.specs.declared.labels.Sort.TheVariants.{OfExistential}
 use Rattle.ir_laws.specs.Tree.{Kind, OfKind, Label, Var, Param, Node, End, And, Term, Terms}
 use Rattle.ir_laws.specs.Same.{same_sort, same_term}
 use Rattle.ir_laws.specs.declared.labels.Part.{Part}
-use Rattle.ir_laws.specs.declared.labels.Part.TheVariants.{ForGroup}
+use Rattle.ir_laws.specs.declared.labels.Part.TheVariants.{Fixed, ForGroup, AField, AKid}
 use Rattle.ir_laws.specs.Label.{row}
 use Rattle.ir_laws.specs.Counts.{sort_of_label}
 
@@ -14,7 +14,9 @@ use Rattle.ir_laws.specs.Counts.{sort_of_label}
 abbrev pub has_for_group : List Part → Bool
 has_for_group [] = false
 has_for_group (ForGroup ∷ parts) = true
-has_for_group (part ∷ parts) = has_for_group parts
+has_for_group (Fixed word ∷ parts) = has_for_group parts
+has_for_group (AField form ∷ parts) = has_for_group parts
+has_for_group (AKid form ∷ parts) = has_for_group parts
 
 -- the node has a `bind`, perhaps an empty one
 abbrev pub is_bound : Option (List (Kind SolverDefId)) → Bool

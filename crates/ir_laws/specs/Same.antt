@@ -1,27 +1,17 @@
 -- Whether two trees are the same.
-use Rattle.std.specs.Prelude.{ℕ, Bool, true, false, ◌&&◌, List, [], ◌∷◌, Option, Some, None, nat_eq, bytes_eq}
+use Rattle.std.specs.Prelude.{Bool, true, false, ◌&&◌, List, [], ◌∷◌, Option, Some, None, nat_eq, bytes_eq}
+use denote.Enum.Bare.{sameb}
 use Rattle.ir_core.specs.declared.ids.SolverDefId.{SolverDefId}
 use Rattle.ir_laws.specs.Id.{same_id}
 use Rattle.ir_laws.specs.Keyword.{same_keyword}
 use Rattle.ir_laws.specs.Word.{same_word}
+use Rattle.ir_laws.specs.contracts.labels.Sort.{the_type}
 use Rattle.ir_laws.specs.declared.labels.Sort.{Sort}
-use Rattle.ir_laws.specs.declared.labels.Sort.TheVariants.{OfType, OfRegion, OfConstant, OfPattern, OfPredicate, OfBytes, OfExistential, OfList}
 use Rattle.ir_laws.specs.Tree.{KindName, Nameless, Environment, Called, Kind, Mapped, Field, Number, Item, Chosen, OfKind, Memory, Label, Parameter, Var, Param, Node, End, And, Term, Terms}
 
--- each sort has a number of its own
-abbrev pub sort_number : Sort → ℕ
-sort_number OfType = 0
-sort_number OfRegion = 1
-sort_number OfConstant = 2
-sort_number OfPattern = 3
-sort_number OfPredicate = 4
-sort_number OfBytes = 5
-sort_number OfExistential = 6
-sort_number OfList = 7
-
--- two sorts are the same where their numbers are
+-- whether two sorts are the same
 abbrev pub same_sort : Sort → Sort → Bool
-same_sort a b = nat_eq (sort_number a) (sort_number b)
+same_sort = sameb the_type
 
 -- lists of one length, whose members are the same one by one
 abbrev pub same_list : {A : Type 0} → (A → A → Bool) → List A → List A → Bool

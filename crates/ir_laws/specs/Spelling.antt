@@ -5,7 +5,7 @@ use Rattle.ir_laws.specs.declared.words.Word.TheVariants.{BoundVariable}
 use Rattle.ir_laws.specs.Keyword.{keyword_text, fixed_text}
 use Rattle.ir_laws.specs.Numeral.{numeral}
 use Rattle.ir_laws.specs.declared.labels.Sort.{Sort}
-use Rattle.ir_laws.specs.declared.labels.Sort.TheVariants.{OfType, OfRegion, OfList}
+use Rattle.ir_laws.specs.declared.labels.Sort.TheVariants.{OfType, OfRegion, OfConstant, OfPattern, OfPredicate, OfBytes, OfExistential, OfList}
 use Rattle.ir_laws.specs.Tree.{Text, Nameless, Environment, Called, Kind, Mapped, Field, Number, Item, Chosen, OfKind, Memory, Label, Var, Param, Node, End, And, Term, Terms}
 use Rattle.ir_laws.specs.Same.{same_sort}
 use Rattle.ir_laws.specs.Counts.{parameter_word, sort_of_label}
@@ -36,7 +36,12 @@ hex bytes = flat_map (λ b. hex_glyph (b / 16) ∷ hex_glyph (b % 16) ∷ []) by
 abbrev pub sort_letter : Sort → Text
 sort_letter OfType = codes "t"
 sort_letter OfRegion = codes "r"
-sort_letter s = codes "c"
+sort_letter OfConstant = codes "c"
+sort_letter OfPattern = codes "c"
+sort_letter OfPredicate = codes "c"
+sort_letter OfBytes = codes "c"
+sort_letter OfExistential = codes "c"
+sort_letter OfList = codes "c"
 
 -- `t`, `r` or `c`, with `:` and the name where there is one, or `env`
 abbrev pub kind_text : (SolverDefId → Text) → Kind SolverDefId → Text

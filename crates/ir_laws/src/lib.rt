@@ -9,7 +9,8 @@ mod words;
 
 pub use items::ItemKind;
 pub use labels::{
-    ArgumentCount, Choice, FieldForm, FixedWord, IfEmpty, ItemPlace, Keyword, KidForm, Part, Sort,
+    ArgumentCount, Choice, FieldForm, FixedWord, IfEmpty, ItemPlace, Keyword, KidForm, Part, Row,
+    Sort,
 };
 pub use laws::{
     arguments_are_given, commands_are_scoped, is_reading, is_the_only_term, numerals_are_decimals,

@@ -1,555 +1,415 @@
 //! The table of labels, for code.
 ghost use Rattle.ir_laws.specs.Label.{row, Always, ByKind};
+ghost use Rattle.ir_laws.specs.declared.labels.Sort.TheVariants.{OfList};
 ghost use Rattle.ir_laws.specs.Keyword.{choice_words, fixed_text, keyword_text};
 ghost use Rattle.ir_core.specs.Flags.{bits_of};
-ghost use Rattle.std.specs.Prelude.{◌≡◌, MatchOption};
+ghost use Rattle.std.specs.Prelude.{◌≡◌, [], None, Some, MatchOption};
 
 use crate::{
     ArgumentCount, Choice, FieldForm, FixedWord, IfEmpty, ItemKind, ItemPlace, Keyword, KidForm,
-    Part, Sort, Word,
+    Part, Row, Sort, Word,
 };
+use Sort::{OfBytes, OfConstant, OfExistential, OfList, OfPattern, OfPredicate, OfRegion, OfType};
 use bitflags::Flags;
 use ir_core::TypeFlags;
 
+// Kids of a sort.
+const TYPE: Part = Part::AKid(KidForm::OneOf(Sort::OfType));
+
+const REGION: Part = Part::AKid(KidForm::OneOf(Sort::OfRegion));
+
+const CONSTANT: Part = Part::AKid(KidForm::OneOf(Sort::OfConstant));
+
+const PATTERN: Part = Part::AKid(KidForm::OneOf(Sort::OfPattern));
+
+const BYTES: Part = Part::AKid(KidForm::OneOf(Sort::OfBytes));
+
+const TYPE_OR_CONSTANT: Part = Part::AKid(KidForm::TypeOrConstant);
+
+// Lists of members of a sort; of those whose names begin with SOME an empty one is a fault.
+const TYPES: Part = Part::AKid(KidForm::ListOf(Word::TypeList, Sort::OfType, IfEmpty::Fine));
+
+const EXISTENTIALS: Part = Part::AKid(KidForm::ListOf(
+    Word::ExistentialList,
+    Sort::OfExistential,
+    IfEmpty::Fine,
+));
+
+const SOME_TYPES: Part = Part::AKid(KidForm::ListOf(
+    Word::TypeList,
+    Sort::OfType,
+    IfEmpty::ArityIfEmpty,
+));
+
+const SOME_PATTERNS: Part = Part::AKid(KidForm::ListOf(
+    Word::PatternList,
+    Sort::OfPattern,
+    IfEmpty::EmptyOrIfEmpty,
+));
+
+// Lists of arguments, so many as is said.
+const ARGUMENTS: Part = Part::AKid(KidForm::ArgumentsOf(ArgumentCount::Whole));
+
+const WITHOUT_SELF: Part = Part::AKid(KidForm::ArgumentsOf(ArgumentCount::WithoutSelf));
+
+const WITH_THREE_TYPES: Part = Part::AKid(KidForm::ArgumentsOf(ArgumentCount::WithTypes(
+    ItemKind::ClosureItem,
+    3,
+)));
+
+const WITH_FOUR_TYPES: Part = Part::AKid(KidForm::ArgumentsOf(ArgumentCount::WithTypes(
+    ItemKind::CoroutineItem,
+    4,
+)));
+
+const WITH_FIVE_TYPES: Part = Part::AKid(KidForm::ArgumentsOf(ArgumentCount::WithTypes(
+    ItemKind::CoroutineItem,
+    5,
+)));
+
+// One of a few keywords.
+const MUTABILITY: Part = Part::AField(FieldForm::OneWordOf(Choice::Mutability));
+
+const SAFETY: Part = Part::AField(FieldForm::OneWordOf(Choice::Safety));
+
+const ABI: Part = Part::AField(FieldForm::OneWordOf(Choice::Abi));
+
+const VARIADIC: Part = Part::AField(FieldForm::OneWordOf(Choice::Variadic));
+
+const POLARITY: Part = Part::AField(FieldForm::OneWordOf(Choice::Polarity));
+
+const CONSTNESS: Part = Part::AField(FieldForm::OneWordOf(Choice::Constness));
+
+const EXPECTED: Part = Part::AField(FieldForm::OneWordOf(Choice::Expected));
+
+const DIRECTION: Part = Part::AField(FieldForm::OneWordOf(Choice::Direction));
+
+// An item of the place's kinds.
+const ADT: Part = Part::AField(FieldForm::ItemOf(ItemPlace::AdtPlace));
+
+const ALIAS: Part = Part::AField(FieldForm::ItemOf(ItemPlace::AliasPlace));
+
+const CALLABLE: Part = Part::AField(FieldForm::ItemOf(ItemPlace::CallablePlace));
+
+const CLOSURE: Part = Part::AField(FieldForm::ItemOf(ItemPlace::ClosurePlace));
+
+const COROUTINE: Part = Part::AField(FieldForm::ItemOf(ItemPlace::CoroutinePlace));
+
+const OPAQUE_ITEM: Part = Part::AField(FieldForm::ItemOf(ItemPlace::OpaquePlace));
+
+const CONSTANT_ITEM: Part = Part::AField(FieldForm::ItemOf(ItemPlace::ConstantPlace));
+
+const TRAIT: Part = Part::AField(FieldForm::ItemOf(ItemPlace::TraitPlace));
+
+const PROJECTED: Part = Part::AField(FieldForm::ItemOf(ItemPlace::ProjectedPlace));
+
+// An alias whose parent is a trait, the item that a parameter belongs to, and an item of any kind.
+const TRAIT_ALIAS: Part = Part::AField(FieldForm::AliasOfTrait);
+
+const PARENT: Part = Part::AField(FieldForm::IdOf(ItemPlace::ParentPlace));
+
+const ANY_ITEM: Part = Part::AField(FieldForm::IdOf(ItemPlace::AnyPlace));
+
+// What is no item: a number, variable kinds, and bytes with mapped addresses.
+const NUMBER: Part = Part::AField(FieldForm::ANumber);
+
+const VARIABLE_KIND: Part = Part::AField(FieldForm::AVariableKind);
+
+const REGION_KIND: Part = Part::AField(FieldForm::ARegionKind);
+
+const MEMORY: Part = Part::AField(FieldForm::AMemory);
+
+// The group of variable kinds that the label binds.
+const GROUP: Part = Part::ForGroup;
+
+// Words that stand in a place of their own.
+const PROJECTION: Part = Part::Fixed(FixedWord::Projection);
+
+const INHERENT: Part = Part::Fixed(FixedWord::Inherent);
+
+const FREE: Part = Part::Fixed(FixedWord::Free);
+
+const OPAQUE: Part = Part::Fixed(FixedWord::Opaque);
+
+const STAR: Part = Part::Fixed(FixedWord::Star);
+
+// A word alone.
+fn bare(text: &'static [u8], sort: Sort) -> Row
+    ensures text { result.text.now ≡ text.now }
+    ensures sort { result.sort ≡ Some sort }
+    ensures parts { result.parts.now ≡ [] }
+    ensures flags { bits_of result.flags ≡ 0 }
+{
+    node(text, sort, &[])
+}
+
+// A word and its parts in brackets.
+fn node(text: &'static [u8], sort: Sort, parts: &'static [Part]) -> Row
+    ensures text { result.text.now ≡ text.now }
+    ensures sort { result.sort ≡ Some sort }
+    ensures parts { result.parts.now ≡ parts.now }
+    ensures flags { bits_of result.flags ≡ 0 }
+{
+    Row {
+        text,
+        sort: Some(sort),
+        parts,
+        flags: TypeFlags::empty(),
+    }
+}
+
+// A label whose sort is that of its variable kind; its flags go by that sort too.
+fn by_kind(text: &'static [u8], parts: &'static [Part]) -> Row
+    ensures text { result.text.now ≡ text.now }
+    ensures sort { result.sort ≡ None }
+    ensures parts { result.parts.now ≡ parts.now }
+    ensures flags { bits_of result.flags ≡ 0 }
+{
+    Row {
+        text,
+        sort: None,
+        parts,
+        flags: TypeFlags::empty(),
+    }
+}
+
+// A list: no word stands before its members.
+fn list_row() -> Row
+    ensures text { result.text.now ≡ [] }
+    ensures sort { result.sort ≡ Some OfList }
+    ensures parts { result.parts.now ≡ [] }
+    ensures flags { bits_of result.flags ≡ 0 }
+{
+    bare(b"", OfList)
+}
+
+impl Row {
+    // The row with flags of its own.
+    fn with_flags(self, flags: TypeFlags) -> Row
+        ensures text { result.text.now ≡ self.text.now }
+        ensures sort { result.sort ≡ self.sort }
+        ensures parts { result.parts.now ≡ self.parts.now }
+        ensures flags { result.flags ≡ flags }
+    {
+        Row { flags, ..self }
+    }
+}
+
 impl Word {
+    /// The row of the word: its line of the table.
+    #[inline(always)]
+    pub fn row(self) -> Row
+        ensures text { result.text.now ≡ (row self).text }
+        ensures sort { MatchOption result.sort ((row self).sort ≡ ByKind) (λ s. (row self).sort ≡ Always s) }
+        ensures parts { result.parts.now ≡ (row self).parts }
+        ensures flags { bits_of result.flags ≡ (row self).flags }
+    {
+        match self {
+            Word::BoolType => bare(b"bool", OfType),
+            Word::CharType => bare(b"char", OfType),
+            Word::StrType => bare(b"str", OfType),
+            Word::NeverType => bare(b"never", OfType),
+            Word::I8Type => bare(b"i8", OfType),
+            Word::I16Type => bare(b"i16", OfType),
+            Word::I32Type => bare(b"i32", OfType),
+            Word::I64Type => bare(b"i64", OfType),
+            Word::I128Type => bare(b"i128", OfType),
+            Word::ISizeType => bare(b"isize", OfType),
+            Word::U8Type => bare(b"u8", OfType),
+            Word::U16Type => bare(b"u16", OfType),
+            Word::U32Type => bare(b"u32", OfType),
+            Word::U64Type => bare(b"u64", OfType),
+            Word::U128Type => bare(b"u128", OfType),
+            Word::USizeType => bare(b"usize", OfType),
+            Word::F16Type => bare(b"f16", OfType),
+            Word::F32Type => bare(b"f32", OfType),
+            Word::F64Type => bare(b"f64", OfType),
+            Word::F128Type => bare(b"f128", OfType),
+            Word::ErrorType => bare(b"tyerror", OfType).with_flags(TypeFlags::HAS_ERROR),
+            Word::AdtType => node(b"adt", OfType, &[ADT, ARGUMENTS]),
+            Word::ForeignType => node(b"foreign", OfType, &[ALIAS]),
+            Word::ArrayType => node(b"array", OfType, &[TYPE, CONSTANT]),
+            Word::PatternType => node(b"pat", OfType, &[TYPE, PATTERN]),
+            Word::SliceType => node(b"slice", OfType, &[TYPE]),
+            Word::PointerType => node(b"ptr", OfType, &[MUTABILITY, TYPE]),
+            Word::ReferenceType => node(b"ref", OfType, &[MUTABILITY, REGION, TYPE]),
+            Word::FnDefType => node(b"fndef", OfType, &[CALLABLE, ARGUMENTS]),
+            Word::FnPtrType => node(
+                b"fnptr",
+                OfType,
+                &[GROUP, SAFETY, ABI, VARIADIC, SOME_TYPES],
+            ),
+            Word::UnsafeBinderType => node(b"unsafe", OfType, &[GROUP, TYPE]),
+            Word::DynType => node(b"dyn", OfType, &[EXISTENTIALS, REGION]),
+            Word::ClosureType => node(b"closure", OfType, &[CLOSURE, WITH_THREE_TYPES]),
+            Word::CoroutineClosureType => node(b"coclosure", OfType, &[COROUTINE, WITH_FOUR_TYPES]),
+            Word::CoroutineType => node(
+                b"coroutine",
+                OfType,
+                &[COROUTINE, WITH_FIVE_TYPES],
+            ).with_flags(TypeFlags::HAS_TY_COROUTINE),
+            Word::WitnessType => node(b"witness", OfType, &[COROUTINE, WITH_FIVE_TYPES]),
+            Word::TupleType => node(b"tuple", OfType, &[TYPES]),
+            Word::ProjectionAlias => node(
+                b"alias",
+                OfType,
+                &[PROJECTION, ALIAS, ARGUMENTS],
+            ).with_flags(TypeFlags::HAS_TY_PROJECTION),
+            Word::InherentAlias => node(b"alias", OfType, &[INHERENT, ALIAS, ARGUMENTS]).with_flags(
+                TypeFlags::HAS_TY_INHERENT,
+            ),
+            Word::FreeAlias => node(b"alias", OfType, &[FREE, ALIAS, ARGUMENTS]).with_flags(
+                TypeFlags::HAS_TY_FREE_ALIAS,
+            ),
+            Word::OpaqueAlias => node(
+                b"alias",
+                OfType,
+                &[OPAQUE, OPAQUE_ITEM, ARGUMENTS],
+            ).with_flags(TypeFlags::HAS_TY_OPAQUE),
+            Word::TypeParameter => node(b"tparam", OfType, &[PARENT, NUMBER, NUMBER]).with_flags(
+                TypeFlags::HAS_TY_PARAM,
+            ),
+            Word::TypeVariable => node(b"tyvar", OfType, &[NUMBER]).with_flags(
+                TypeFlags::HAS_TY_INFER,
+            ),
+            Word::IntegerVariable => node(b"intvar", OfType, &[NUMBER]).with_flags(
+                TypeFlags::HAS_TY_INFER,
+            ),
+            Word::FloatVariable => node(b"floatvar", OfType, &[NUMBER]).with_flags(
+                TypeFlags::HAS_TY_INFER,
+            ),
+            Word::FreshType => node(b"freshty", OfType, &[NUMBER]).with_flags(
+                TypeFlags::HAS_TY_FRESH,
+            ),
+            Word::FreshInteger => node(b"freshint", OfType, &[NUMBER]).with_flags(
+                TypeFlags::HAS_TY_FRESH,
+            ),
+            Word::FreshFloat => node(b"freshfloat", OfType, &[NUMBER]).with_flags(
+                TypeFlags::HAS_TY_FRESH,
+            ),
+            Word::StaticRegion => bare(b"static", OfRegion).with_flags(TypeFlags::HAS_FREE_REGIONS),
+            Word::ErasedRegion => bare(b"erased", OfRegion).with_flags(TypeFlags::HAS_RE_ERASED),
+            Word::ErrorRegion => bare(b"reerror", OfRegion).with_flags(
+                TypeFlags::HAS_FREE_REGIONS.union(TypeFlags::HAS_ERROR),
+            ),
+            Word::RegionParameter => node(b"early", OfRegion, &[PARENT, NUMBER, NUMBER]).with_flags(
+                TypeFlags::HAS_FREE_REGIONS
+                    .union(TypeFlags::HAS_FREE_LOCAL_REGIONS)
+                    .union(TypeFlags::HAS_RE_PARAM),
+            ),
+            Word::LateRegion => node(b"late", OfRegion, &[ANY_ITEM, REGION_KIND]).with_flags(
+                TypeFlags::HAS_FREE_REGIONS.union(TypeFlags::HAS_FREE_LOCAL_REGIONS),
+            ),
+            Word::RegionVariable => node(b"revar", OfRegion, &[NUMBER]).with_flags(
+                TypeFlags::HAS_FREE_REGIONS
+                    .union(TypeFlags::HAS_FREE_LOCAL_REGIONS)
+                    .union(TypeFlags::HAS_RE_INFER),
+            ),
+            Word::ConstantParameter => node(
+                b"cparam",
+                OfConstant,
+                &[PARENT, NUMBER, NUMBER],
+            ).with_flags(TypeFlags::HAS_CT_PARAM),
+            Word::ConstantVariable => node(b"ctvar", OfConstant, &[NUMBER]).with_flags(
+                TypeFlags::HAS_CT_INFER,
+            ),
+            Word::FreshConstant => node(b"freshct", OfConstant, &[NUMBER]).with_flags(
+                TypeFlags::HAS_CT_FRESH,
+            ),
+            Word::UnevaluatedConstant => node(
+                b"uneval",
+                OfConstant,
+                &[CONSTANT_ITEM, ARGUMENTS],
+            ).with_flags(TypeFlags::HAS_CT_PROJECTION),
+            Word::ValueConstant => node(b"value", OfConstant, &[TYPE, BYTES]),
+            Word::ExprConstant => bare(b"expr", OfConstant).with_flags(
+                TypeFlags::HAS_CT_PROJECTION,
+            ),
+            Word::ErrorConstant => bare(b"cterror", OfConstant).with_flags(TypeFlags::HAS_ERROR),
+            Word::CanonicalVariable => by_kind(b"var", &[STAR, NUMBER, VARIABLE_KIND]),
+            Word::BoundVariable => by_kind(b"var", &[NUMBER, NUMBER, VARIABLE_KIND]),
+            Word::Placeholder => by_kind(b"place", &[NUMBER, NUMBER, VARIABLE_KIND]),
+            Word::ByteTree => node(b"bytes", OfBytes, &[MEMORY]),
+            Word::RangePattern => node(b"range", OfPattern, &[CONSTANT, CONSTANT]),
+            Word::OrPattern => node(b"or", OfPattern, &[SOME_PATTERNS]),
+            Word::NotNullPattern => bare(b"notnull", OfPattern),
+            Word::ExistentialTrait => node(
+                b"extrait",
+                OfExistential,
+                &[GROUP, TRAIT, WITHOUT_SELF],
+            ),
+            Word::ExistentialProjection => node(
+                b"exproj",
+                OfExistential,
+                &[GROUP, TRAIT_ALIAS, WITHOUT_SELF, TYPE_OR_CONSTANT],
+            ),
+            Word::ExistentialAuto => node(b"exauto", OfExistential, &[GROUP, TRAIT]),
+            Word::TraitClause => node(b"trait", OfPredicate, &[GROUP, POLARITY, TRAIT, ARGUMENTS]),
+            Word::RegionOutlives => node(b"reoutlives", OfPredicate, &[GROUP, REGION, REGION]),
+            Word::TypeOutlives => node(b"tyoutlives", OfPredicate, &[GROUP, TYPE, REGION]),
+            Word::ProjectionClause => node(
+                b"projects",
+                OfPredicate,
+                &[GROUP, PROJECTED, ARGUMENTS, TYPE_OR_CONSTANT],
+            ),
+            Word::ConstantHasType => node(b"ctty", OfPredicate, &[GROUP, CONSTANT, TYPE]),
+            Word::WellFormed => node(b"wf", OfPredicate, &[GROUP, TYPE_OR_CONSTANT]),
+            Word::ConstantEvaluatable => node(b"evaluatable", OfPredicate, &[GROUP, CONSTANT]),
+            Word::HostEffect => node(b"host", OfPredicate, &[GROUP, CONSTNESS, TRAIT, ARGUMENTS]),
+            Word::UnstableFeature => node(b"unstable", OfPredicate, &[GROUP]),
+            Word::DynCompatible => node(b"dyncompat", OfPredicate, &[GROUP, TRAIT]),
+            Word::SubtypePredicate => node(b"subtype", OfPredicate, &[GROUP, EXPECTED, TYPE, TYPE]),
+            Word::CoercePredicate => node(b"coerce", OfPredicate, &[GROUP, TYPE, TYPE]),
+            Word::ConstantEquate => node(b"consteq", OfPredicate, &[GROUP, CONSTANT, CONSTANT]),
+            Word::AmbiguousPredicate => node(b"ambiguous", OfPredicate, &[GROUP]),
+            Word::NormalizesTo => node(
+                b"normalizes",
+                OfPredicate,
+                &[GROUP, PROJECTED, ARGUMENTS, TYPE_OR_CONSTANT],
+            ),
+            Word::AliasRelate => node(
+                b"aliasrelate",
+                OfPredicate,
+                &[GROUP, DIRECTION, TYPE_OR_CONSTANT, TYPE_OR_CONSTANT],
+            ),
+            Word::TypeList => list_row(),
+            Word::ArgumentList => list_row(),
+            Word::PatternList => list_row(),
+            Word::ExistentialList => list_row(),
+            Word::ClauseList => list_row(),
+            Word::VariableList => list_row(),
+            Word::VarianceList => list_row(),
+            Word::AssumptionList => list_row(),
+        }
+    }
+
     /// The word that begins a label of this word, or is the label. A list has none.
     pub fn text(self) -> &'static [u8]
         ensures { result.now ≡ (row self).text }
     {
-        match self {
-            Word::BoolType => b"bool",
-            Word::CharType => b"char",
-            Word::StrType => b"str",
-            Word::NeverType => b"never",
-            Word::I8Type => b"i8",
-            Word::I16Type => b"i16",
-            Word::I32Type => b"i32",
-            Word::I64Type => b"i64",
-            Word::I128Type => b"i128",
-            Word::ISizeType => b"isize",
-            Word::U8Type => b"u8",
-            Word::U16Type => b"u16",
-            Word::U32Type => b"u32",
-            Word::U64Type => b"u64",
-            Word::U128Type => b"u128",
-            Word::USizeType => b"usize",
-            Word::F16Type => b"f16",
-            Word::F32Type => b"f32",
-            Word::F64Type => b"f64",
-            Word::F128Type => b"f128",
-            Word::ErrorType => b"tyerror",
-            Word::AdtType => b"adt",
-            Word::ForeignType => b"foreign",
-            Word::ArrayType => b"array",
-            Word::PatternType => b"pat",
-            Word::SliceType => b"slice",
-            Word::PointerType => b"ptr",
-            Word::ReferenceType => b"ref",
-            Word::FnDefType => b"fndef",
-            Word::FnPtrType => b"fnptr",
-            Word::UnsafeBinderType => b"unsafe",
-            Word::DynType => b"dyn",
-            Word::ClosureType => b"closure",
-            Word::CoroutineClosureType => b"coclosure",
-            Word::CoroutineType => b"coroutine",
-            Word::WitnessType => b"witness",
-            Word::TupleType => b"tuple",
-            Word::ProjectionAlias | Word::InherentAlias | Word::FreeAlias | Word::OpaqueAlias =>
-                b"alias",
-            Word::TypeParameter => b"tparam",
-            Word::TypeVariable => b"tyvar",
-            Word::IntegerVariable => b"intvar",
-            Word::FloatVariable => b"floatvar",
-            Word::FreshType => b"freshty",
-            Word::FreshInteger => b"freshint",
-            Word::FreshFloat => b"freshfloat",
-            Word::StaticRegion => b"static",
-            Word::ErasedRegion => b"erased",
-            Word::ErrorRegion => b"reerror",
-            Word::RegionParameter => b"early",
-            Word::LateRegion => b"late",
-            Word::RegionVariable => b"revar",
-            Word::ConstantParameter => b"cparam",
-            Word::ConstantVariable => b"ctvar",
-            Word::FreshConstant => b"freshct",
-            Word::UnevaluatedConstant => b"uneval",
-            Word::ValueConstant => b"value",
-            Word::ExprConstant => b"expr",
-            Word::ErrorConstant => b"cterror",
-            Word::CanonicalVariable | Word::BoundVariable => b"var",
-            Word::Placeholder => b"place",
-            Word::ByteTree => b"bytes",
-            Word::RangePattern => b"range",
-            Word::OrPattern => b"or",
-            Word::NotNullPattern => b"notnull",
-            Word::ExistentialTrait => b"extrait",
-            Word::ExistentialProjection => b"exproj",
-            Word::ExistentialAuto => b"exauto",
-            Word::TraitClause => b"trait",
-            Word::RegionOutlives => b"reoutlives",
-            Word::TypeOutlives => b"tyoutlives",
-            Word::ProjectionClause => b"projects",
-            Word::ConstantHasType => b"ctty",
-            Word::WellFormed => b"wf",
-            Word::ConstantEvaluatable => b"evaluatable",
-            Word::HostEffect => b"host",
-            Word::UnstableFeature => b"unstable",
-            Word::DynCompatible => b"dyncompat",
-            Word::SubtypePredicate => b"subtype",
-            Word::CoercePredicate => b"coerce",
-            Word::ConstantEquate => b"consteq",
-            Word::AmbiguousPredicate => b"ambiguous",
-            Word::NormalizesTo => b"normalizes",
-            Word::AliasRelate => b"aliasrelate",
-            Word::TypeList
-            | Word::ArgumentList
-            | Word::PatternList
-            | Word::ExistentialList
-            | Word::ClauseList
-            | Word::VariableList
-            | Word::VarianceList
-            | Word::AssumptionList => b"",
-        }
+        self.row().text
     }
 
     /// What is written behind it, in order; nothing for a bare word.
     pub fn parts(self) -> &'static [Part]
         ensures { result.now ≡ (row self).parts }
     {
-        match self {
-            Word::BoolType | Word::CharType | Word::StrType | Word::NeverType | Word::ErrorType =>
-                &[],
-            Word::I8Type
-            | Word::I16Type
-            | Word::I32Type
-            | Word::I64Type
-            | Word::I128Type
-            | Word::ISizeType => &[],
-            Word::U8Type
-            | Word::U16Type
-            | Word::U32Type
-            | Word::U64Type
-            | Word::U128Type
-            | Word::USizeType => &[],
-            Word::F16Type | Word::F32Type | Word::F64Type | Word::F128Type => &[],
-            Word::StaticRegion | Word::ErasedRegion | Word::ErrorRegion => &[],
-            Word::ExprConstant | Word::ErrorConstant => &[],
-            Word::NotNullPattern => &[],
-            Word::TypeList | Word::ArgumentList | Word::PatternList | Word::ExistentialList => &[],
-            Word::ClauseList | Word::VariableList | Word::VarianceList | Word::AssumptionList =>
-                &[],
-            Word::AdtType => &[
-                Part::AField(FieldForm::ItemOf(ItemPlace::AdtPlace)),
-                Part::AKid(KidForm::ArgumentsOf(ArgumentCount::Whole)),
-            ],
-            Word::ForeignType => &[Part::AField(FieldForm::ItemOf(ItemPlace::AliasPlace))],
-            Word::ArrayType => &[
-                Part::AKid(KidForm::OneOf(Sort::OfType)),
-                Part::AKid(KidForm::OneOf(Sort::OfConstant)),
-            ],
-            Word::PatternType => &[
-                Part::AKid(KidForm::OneOf(Sort::OfType)),
-                Part::AKid(KidForm::OneOf(Sort::OfPattern)),
-            ],
-            Word::SliceType => &[Part::AKid(KidForm::OneOf(Sort::OfType))],
-            Word::PointerType => &[
-                Part::AField(FieldForm::OneWordOf(Choice::Mutability)),
-                Part::AKid(KidForm::OneOf(Sort::OfType)),
-            ],
-            Word::ReferenceType => &[
-                Part::AField(FieldForm::OneWordOf(Choice::Mutability)),
-                Part::AKid(KidForm::OneOf(Sort::OfRegion)),
-                Part::AKid(KidForm::OneOf(Sort::OfType)),
-            ],
-            Word::FnDefType => &[
-                Part::AField(FieldForm::ItemOf(ItemPlace::CallablePlace)),
-                Part::AKid(KidForm::ArgumentsOf(ArgumentCount::Whole)),
-            ],
-            Word::FnPtrType => &[
-                Part::ForGroup,
-                Part::AField(FieldForm::OneWordOf(Choice::Safety)),
-                Part::AField(FieldForm::OneWordOf(Choice::Abi)),
-                Part::AField(FieldForm::OneWordOf(Choice::Variadic)),
-                Part::AKid(KidForm::ListOf(Word::TypeList, Sort::OfType, IfEmpty::ArityIfEmpty)),
-            ],
-            Word::UnsafeBinderType => &[Part::ForGroup, Part::AKid(KidForm::OneOf(Sort::OfType))],
-            Word::DynType => &[
-                Part::AKid(KidForm::ListOf(
-                    Word::ExistentialList,
-                    Sort::OfExistential,
-                    IfEmpty::Fine,
-                )),
-                Part::AKid(KidForm::OneOf(Sort::OfRegion)),
-            ],
-            Word::ClosureType => &[
-                Part::AField(FieldForm::ItemOf(ItemPlace::ClosurePlace)),
-                Part::AKid(KidForm::ArgumentsOf(ArgumentCount::WithTypes(
-                    ItemKind::ClosureItem,
-                    3,
-                ))),
-            ],
-            Word::CoroutineClosureType => &[
-                Part::AField(FieldForm::ItemOf(ItemPlace::CoroutinePlace)),
-                Part::AKid(KidForm::ArgumentsOf(ArgumentCount::WithTypes(
-                    ItemKind::CoroutineItem,
-                    4,
-                ))),
-            ],
-            Word::CoroutineType | Word::WitnessType => &[
-                Part::AField(FieldForm::ItemOf(ItemPlace::CoroutinePlace)),
-                Part::AKid(KidForm::ArgumentsOf(ArgumentCount::WithTypes(
-                    ItemKind::CoroutineItem,
-                    5,
-                ))),
-            ],
-            Word::TupleType => &[Part::AKid(KidForm::ListOf(
-                Word::TypeList,
-                Sort::OfType,
-                IfEmpty::Fine,
-            ))],
-            Word::ProjectionAlias => &[
-                Part::Fixed(FixedWord::Projection),
-                Part::AField(FieldForm::ItemOf(ItemPlace::AliasPlace)),
-                Part::AKid(KidForm::ArgumentsOf(ArgumentCount::Whole)),
-            ],
-            Word::InherentAlias => &[
-                Part::Fixed(FixedWord::Inherent),
-                Part::AField(FieldForm::ItemOf(ItemPlace::AliasPlace)),
-                Part::AKid(KidForm::ArgumentsOf(ArgumentCount::Whole)),
-            ],
-            Word::FreeAlias => &[
-                Part::Fixed(FixedWord::Free),
-                Part::AField(FieldForm::ItemOf(ItemPlace::AliasPlace)),
-                Part::AKid(KidForm::ArgumentsOf(ArgumentCount::Whole)),
-            ],
-            Word::OpaqueAlias => &[
-                Part::Fixed(FixedWord::Opaque),
-                Part::AField(FieldForm::ItemOf(ItemPlace::OpaquePlace)),
-                Part::AKid(KidForm::ArgumentsOf(ArgumentCount::Whole)),
-            ],
-            Word::TypeParameter | Word::RegionParameter | Word::ConstantParameter => &[
-                Part::AField(FieldForm::IdOf(ItemPlace::ParentPlace)),
-                Part::AField(FieldForm::ANumber),
-                Part::AField(FieldForm::ANumber),
-            ],
-            Word::TypeVariable
-            | Word::IntegerVariable
-            | Word::FloatVariable
-            | Word::FreshType
-            | Word::FreshInteger
-            | Word::FreshFloat
-            | Word::RegionVariable
-            | Word::ConstantVariable
-            | Word::FreshConstant => &[Part::AField(FieldForm::ANumber)],
-            Word::LateRegion => &[
-                Part::AField(FieldForm::IdOf(ItemPlace::AnyPlace)),
-                Part::AField(FieldForm::ARegionKind),
-            ],
-            Word::UnevaluatedConstant => &[
-                Part::AField(FieldForm::ItemOf(ItemPlace::ConstantPlace)),
-                Part::AKid(KidForm::ArgumentsOf(ArgumentCount::Whole)),
-            ],
-            Word::ValueConstant => &[
-                Part::AKid(KidForm::OneOf(Sort::OfType)),
-                Part::AKid(KidForm::OneOf(Sort::OfBytes)),
-            ],
-            Word::CanonicalVariable => &[
-                Part::Fixed(FixedWord::Star),
-                Part::AField(FieldForm::ANumber),
-                Part::AField(FieldForm::AVariableKind),
-            ],
-            Word::BoundVariable | Word::Placeholder => &[
-                Part::AField(FieldForm::ANumber),
-                Part::AField(FieldForm::ANumber),
-                Part::AField(FieldForm::AVariableKind),
-            ],
-            Word::ByteTree => &[Part::AField(FieldForm::AMemory)],
-            Word::RangePattern => &[
-                Part::AKid(KidForm::OneOf(Sort::OfConstant)),
-                Part::AKid(KidForm::OneOf(Sort::OfConstant)),
-            ],
-            Word::OrPattern => &[Part::AKid(KidForm::ListOf(
-                Word::PatternList,
-                Sort::OfPattern,
-                IfEmpty::EmptyOrIfEmpty,
-            ))],
-            Word::ExistentialTrait => &[
-                Part::ForGroup,
-                Part::AField(FieldForm::ItemOf(ItemPlace::TraitPlace)),
-                Part::AKid(KidForm::ArgumentsOf(ArgumentCount::WithoutSelf)),
-            ],
-            Word::ExistentialProjection => &[
-                Part::ForGroup,
-                Part::AField(FieldForm::AliasOfTrait),
-                Part::AKid(KidForm::ArgumentsOf(ArgumentCount::WithoutSelf)),
-                Part::AKid(KidForm::TypeOrConstant),
-            ],
-            Word::ExistentialAuto | Word::DynCompatible => &[
-                Part::ForGroup,
-                Part::AField(FieldForm::ItemOf(ItemPlace::TraitPlace)),
-            ],
-            Word::TraitClause => &[
-                Part::ForGroup,
-                Part::AField(FieldForm::OneWordOf(Choice::Polarity)),
-                Part::AField(FieldForm::ItemOf(ItemPlace::TraitPlace)),
-                Part::AKid(KidForm::ArgumentsOf(ArgumentCount::Whole)),
-            ],
-            Word::RegionOutlives => &[
-                Part::ForGroup,
-                Part::AKid(KidForm::OneOf(Sort::OfRegion)),
-                Part::AKid(KidForm::OneOf(Sort::OfRegion)),
-            ],
-            Word::TypeOutlives => &[
-                Part::ForGroup,
-                Part::AKid(KidForm::OneOf(Sort::OfType)),
-                Part::AKid(KidForm::OneOf(Sort::OfRegion)),
-            ],
-            Word::ProjectionClause | Word::NormalizesTo => &[
-                Part::ForGroup,
-                Part::AField(FieldForm::ItemOf(ItemPlace::ProjectedPlace)),
-                Part::AKid(KidForm::ArgumentsOf(ArgumentCount::Whole)),
-                Part::AKid(KidForm::TypeOrConstant),
-            ],
-            Word::ConstantHasType => &[
-                Part::ForGroup,
-                Part::AKid(KidForm::OneOf(Sort::OfConstant)),
-                Part::AKid(KidForm::OneOf(Sort::OfType)),
-            ],
-            Word::WellFormed => &[Part::ForGroup, Part::AKid(KidForm::TypeOrConstant)],
-            Word::ConstantEvaluatable => &[
-                Part::ForGroup,
-                Part::AKid(KidForm::OneOf(Sort::OfConstant)),
-            ],
-            Word::HostEffect => &[
-                Part::ForGroup,
-                Part::AField(FieldForm::OneWordOf(Choice::Constness)),
-                Part::AField(FieldForm::ItemOf(ItemPlace::TraitPlace)),
-                Part::AKid(KidForm::ArgumentsOf(ArgumentCount::Whole)),
-            ],
-            Word::UnstableFeature | Word::AmbiguousPredicate => &[Part::ForGroup],
-            Word::SubtypePredicate => &[
-                Part::ForGroup,
-                Part::AField(FieldForm::OneWordOf(Choice::Expected)),
-                Part::AKid(KidForm::OneOf(Sort::OfType)),
-                Part::AKid(KidForm::OneOf(Sort::OfType)),
-            ],
-            Word::CoercePredicate => &[
-                Part::ForGroup,
-                Part::AKid(KidForm::OneOf(Sort::OfType)),
-                Part::AKid(KidForm::OneOf(Sort::OfType)),
-            ],
-            Word::ConstantEquate => &[
-                Part::ForGroup,
-                Part::AKid(KidForm::OneOf(Sort::OfConstant)),
-                Part::AKid(KidForm::OneOf(Sort::OfConstant)),
-            ],
-            Word::AliasRelate => &[
-                Part::ForGroup,
-                Part::AField(FieldForm::OneWordOf(Choice::Direction)),
-                Part::AKid(KidForm::TypeOrConstant),
-                Part::AKid(KidForm::TypeOrConstant),
-            ],
-        }
+        self.row().parts
     }
 
     /// The sort of a label of this word; none where it is that of the label's variable kind.
+    #[inline(always)]
     pub fn sort(self) -> Option<Sort>
         ensures { MatchOption result ((row self).sort ≡ ByKind) (λ s. (row self).sort ≡ Always s) }
     {
-        match self {
-            Word::BoolType
-            | Word::CharType
-            | Word::StrType
-            | Word::NeverType
-            | Word::I8Type
-            | Word::I16Type => Some(Sort::OfType),
-            Word::I32Type
-            | Word::I64Type
-            | Word::I128Type
-            | Word::ISizeType
-            | Word::U8Type
-            | Word::U16Type => Some(Sort::OfType),
-            Word::U32Type
-            | Word::U64Type
-            | Word::U128Type
-            | Word::USizeType
-            | Word::F16Type
-            | Word::F32Type => Some(Sort::OfType),
-            Word::F64Type
-            | Word::F128Type
-            | Word::ErrorType
-            | Word::AdtType
-            | Word::ForeignType
-            | Word::ArrayType => Some(Sort::OfType),
-            Word::PatternType
-            | Word::SliceType
-            | Word::PointerType
-            | Word::ReferenceType
-            | Word::FnDefType
-            | Word::FnPtrType => Some(Sort::OfType),
-            Word::UnsafeBinderType
-            | Word::DynType
-            | Word::ClosureType
-            | Word::CoroutineClosureType
-            | Word::CoroutineType
-            | Word::WitnessType => Some(Sort::OfType),
-            Word::TupleType
-            | Word::ProjectionAlias
-            | Word::InherentAlias
-            | Word::FreeAlias
-            | Word::OpaqueAlias
-            | Word::TypeParameter => Some(Sort::OfType),
-            Word::TypeVariable
-            | Word::IntegerVariable
-            | Word::FloatVariable
-            | Word::FreshType
-            | Word::FreshInteger
-            | Word::FreshFloat => Some(Sort::OfType),
-            Word::StaticRegion
-            | Word::ErasedRegion
-            | Word::ErrorRegion
-            | Word::RegionParameter
-            | Word::LateRegion
-            | Word::RegionVariable => Some(Sort::OfRegion),
-            Word::ConstantParameter
-            | Word::ConstantVariable
-            | Word::FreshConstant
-            | Word::UnevaluatedConstant
-            | Word::ValueConstant
-            | Word::ExprConstant => Some(Sort::OfConstant),
-            Word::ErrorConstant => Some(Sort::OfConstant),
-            Word::CanonicalVariable | Word::BoundVariable | Word::Placeholder => None,
-            Word::ByteTree => Some(Sort::OfBytes),
-            Word::RangePattern | Word::OrPattern | Word::NotNullPattern => Some(Sort::OfPattern),
-            Word::ExistentialTrait | Word::ExistentialProjection | Word::ExistentialAuto => Some(
-                Sort::OfExistential,
-            ),
-            Word::TraitClause
-            | Word::RegionOutlives
-            | Word::TypeOutlives
-            | Word::ProjectionClause
-            | Word::ConstantHasType
-            | Word::WellFormed => Some(Sort::OfPredicate),
-            Word::ConstantEvaluatable
-            | Word::HostEffect
-            | Word::UnstableFeature
-            | Word::DynCompatible
-            | Word::SubtypePredicate
-            | Word::CoercePredicate => Some(Sort::OfPredicate),
-            Word::ConstantEquate
-            | Word::AmbiguousPredicate
-            | Word::NormalizesTo
-            | Word::AliasRelate => Some(Sort::OfPredicate),
-            Word::TypeList
-            | Word::ArgumentList
-            | Word::PatternList
-            | Word::ExistentialList
-            | Word::ClauseList
-            | Word::VariableList => Some(Sort::OfList),
-            Word::VarianceList | Word::AssumptionList => Some(Sort::OfList),
-        }
+        self.row().sort
     }
 
     /// The flags of a label of this word by itself. For a variable and a placeholder they go by its sort besides.
     pub fn flags(self) -> TypeFlags
         ensures { bits_of result ≡ (row self).flags }
     {
-        match self {
-            Word::BoolType
-            | Word::CharType
-            | Word::StrType
-            | Word::NeverType
-            | Word::I8Type
-            | Word::I16Type => TypeFlags::empty(),
-            Word::I32Type
-            | Word::I64Type
-            | Word::I128Type
-            | Word::ISizeType
-            | Word::U8Type
-            | Word::U16Type => TypeFlags::empty(),
-            Word::U32Type
-            | Word::U64Type
-            | Word::U128Type
-            | Word::USizeType
-            | Word::F16Type
-            | Word::F32Type => TypeFlags::empty(),
-            Word::F64Type | Word::F128Type => TypeFlags::empty(),
-            Word::ErrorType => TypeFlags::HAS_ERROR,
-            Word::AdtType
-            | Word::ForeignType
-            | Word::ArrayType
-            | Word::PatternType
-            | Word::SliceType
-            | Word::PointerType => TypeFlags::empty(),
-            Word::ReferenceType
-            | Word::FnDefType
-            | Word::FnPtrType
-            | Word::UnsafeBinderType
-            | Word::DynType
-            | Word::ClosureType => TypeFlags::empty(),
-            Word::CoroutineClosureType => TypeFlags::empty(),
-            Word::CoroutineType => TypeFlags::HAS_TY_COROUTINE,
-            Word::WitnessType | Word::TupleType => TypeFlags::empty(),
-            Word::ProjectionAlias => TypeFlags::HAS_TY_PROJECTION,
-            Word::InherentAlias => TypeFlags::HAS_TY_INHERENT,
-            Word::FreeAlias => TypeFlags::HAS_TY_FREE_ALIAS,
-            Word::OpaqueAlias => TypeFlags::HAS_TY_OPAQUE,
-            Word::TypeParameter => TypeFlags::HAS_TY_PARAM,
-            Word::TypeVariable | Word::IntegerVariable | Word::FloatVariable =>
-                TypeFlags::HAS_TY_INFER,
-            Word::FreshType | Word::FreshInteger | Word::FreshFloat => TypeFlags::HAS_TY_FRESH,
-            Word::StaticRegion => TypeFlags::HAS_FREE_REGIONS,
-            Word::ErasedRegion => TypeFlags::HAS_RE_ERASED,
-            Word::ErrorRegion => TypeFlags::HAS_FREE_REGIONS.union(TypeFlags::HAS_ERROR),
-            Word::RegionParameter => TypeFlags::HAS_FREE_REGIONS
-                .union(TypeFlags::HAS_FREE_LOCAL_REGIONS)
-                .union(TypeFlags::HAS_RE_PARAM),
-            Word::LateRegion => TypeFlags::HAS_FREE_REGIONS.union(
-                TypeFlags::HAS_FREE_LOCAL_REGIONS,
-            ),
-            Word::RegionVariable => TypeFlags::HAS_FREE_REGIONS
-                .union(TypeFlags::HAS_FREE_LOCAL_REGIONS)
-                .union(TypeFlags::HAS_RE_INFER),
-            Word::ConstantParameter => TypeFlags::HAS_CT_PARAM,
-            Word::ConstantVariable => TypeFlags::HAS_CT_INFER,
-            Word::FreshConstant => TypeFlags::HAS_CT_FRESH,
-            Word::UnevaluatedConstant => TypeFlags::HAS_CT_PROJECTION,
-            Word::ValueConstant => TypeFlags::empty(),
-            Word::ExprConstant => TypeFlags::HAS_CT_PROJECTION,
-            Word::ErrorConstant => TypeFlags::HAS_ERROR,
-            Word::CanonicalVariable
-            | Word::BoundVariable
-            | Word::Placeholder
-            | Word::ByteTree
-            | Word::RangePattern
-            | Word::OrPattern => TypeFlags::empty(),
-            Word::NotNullPattern
-            | Word::ExistentialTrait
-            | Word::ExistentialProjection
-            | Word::ExistentialAuto
-            | Word::TraitClause
-            | Word::RegionOutlives => TypeFlags::empty(),
-            Word::TypeOutlives
-            | Word::ProjectionClause
-            | Word::ConstantHasType
-            | Word::WellFormed
-            | Word::ConstantEvaluatable
-            | Word::HostEffect => TypeFlags::empty(),
-            Word::UnstableFeature
-            | Word::DynCompatible
-            | Word::SubtypePredicate
-            | Word::CoercePredicate
-            | Word::ConstantEquate
-            | Word::AmbiguousPredicate => TypeFlags::empty(),
-            Word::NormalizesTo
-            | Word::AliasRelate
-            | Word::TypeList
-            | Word::ArgumentList
-            | Word::PatternList
-            | Word::ExistentialList => TypeFlags::empty(),
-            Word::ClauseList | Word::VariableList | Word::VarianceList | Word::AssumptionList =>
-                TypeFlags::empty(),
-        }
+        self.row().flags
     }
 }
 

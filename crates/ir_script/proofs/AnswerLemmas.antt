@@ -12,7 +12,7 @@ use Rattle.ir_laws.specs.Cause as cause
 use Rattle.ir_laws.specs.Cause.{is_cause_among}
 use Rattle.ir_laws.specs.Causes.{earliest, tree_stages, tree_stages_if, are_listed, limit_causes, unlisted_causes, size_causes}
 use Rattle.ir_laws.specs.Counts.{size}
-use Rattle.ir_laws.specs.Environment.{form_trees, tree_of as tree_in, with_own}
+use Rattle.ir_laws.specs.Environment.{form_trees, tree_in, with_own}
 use Rattle.ir_laws.specs.Elaboration.{all_fit}
 use Rattle.ir_laws.specs.Expression as expression
 use Rattle.ir_laws.specs.Expression.{expr_list, lines_of}

@@ -12,29 +12,30 @@ use Rattle.ir_core.specs.declared.handles.BoundVarKinds.{BoundVarKinds}
 use Rattle.ir_core.specs.declared.handles.Part.{Part}
 use Rattle.ir_core.specs.declared.handles.Part.TheVariants as part
 use Rattle.ir_core.specs.declared.variables.BoundVarKind.{BoundVarKind}
+use Rattle.ir_core.specs.declared.variables.BoundVarKind.TheVariants as kind
 use Rattle.ir_core.specs.declared.handles.Ty.{Ty}
 use Rattle.ir_laws.specs.declared.words.Word.{Word}
 use Rattle.ir_laws.specs.declared.words.Word.TheVariants.{TypeList, BoundVariable, VariableList}
 use Rattle.ir_laws.specs.declared.labels.Sort.{Sort}
-use Rattle.ir_laws.specs.declared.labels.Sort.TheVariants.{OfType, OfRegion, OfConstant, OfExistential}
+use Rattle.ir_laws.specs.declared.labels.Sort.TheVariants.{OfType, OfRegion, OfConstant, OfExistential, OfList}
 use Rattle.ir_laws.specs.declared.labels.Part.{Part as RowPart}
 use Rattle.ir_laws.specs.declared.labels.FieldForm.{FieldForm}
-use Rattle.ir_laws.specs.declared.labels.FieldForm.TheVariants.{OneWordOf}
+use Rattle.ir_laws.specs.declared.labels.FieldForm.TheVariants.{OneWordOf, ANumber, AVariableKind}
 use Rattle.ir_laws.specs.declared.labels.KidForm.{KidForm}
 use Rattle.ir_laws.specs.declared.labels.KidForm.TheVariants.{OneOf, TypeOrConstant, ListOf, ArgumentsOf}
 use Rattle.ir_laws.specs.Tree as tree
 use Rattle.ir_laws.specs.Tree.{Text, Label, Kind, Node, End, And, Term, Terms}
 use Rattle.ir_laws.specs.Word.{same_word, label_words}
 use Rattle.ir_laws.specs.Same.{same_sort}
-use Rattle.ir_laws.specs.Label.{Always, ByKind, row}
+use Rattle.ir_laws.specs.Label.{LabelSort, Always, ByKind, row}
 use Rattle.ir_laws.specs.Names.{field_forms}
 use Rattle.ir_laws.specs.Sorts.{is_word_among}
 use Rattle.ir_laws.specs.Formed.{kid_forms, field_fits, fields_fit, bind_fits, has_no_fields}
 use Rattle.ir_laws.specs.Counts.{sort_of, sort_of_fields, sort_of_label}
 use Rattle.ir_laws.specs.Phrase.{Phrase, Phrases, Labelled, NoPhrase, ThenPhrase, cons_if, each_of, phrase_list}
 use Rattle.ir_laws.specs.Environment as environment
-use Rattle.ir_laws.specs.Environment.{bind_in, kind_in, field_in, tree_made, trees_of, cons_term}
-use Rattle.ir_laws.specs.Heap.{Layer, Heap, Each, forest, kinds_among, kinds_at, names_in, plant, with_binder, IsLive, IsSound, Grows, tree_of, tree_above}
+use Rattle.ir_laws.specs.Environment.{bind_in, kind_in, field_meant, tree_made, trees_of, cons_term}
+use Rattle.ir_laws.specs.Heap.{OfNames, Layer, Heap, Each, forest, kinds_among, kinds_at, names_in, plant, with_binder, IsLive, IsSound, Grows, tree_of, tree_above}
 use Rattle.ir_laws.specs.Held.{Counts}
 use Rattle.ir_laws.specs.Parts.{has_for_group, is_counted, variable_list, variable_lists, parts, all_parts, is_part}
 use Rattle.ir_laws.proofs.SameParts.{word_decides, sort_decides}
@@ -42,12 +43,18 @@ use Rattle.ir_laws.proofs.HeldLemmas.{parts_stand}
 use Rattle.ir_laws.proofs.HeapLemmas.{Each-map, forest-same, binder_tree}
 use Rattle.ir_laws.proofs.PartSets.{no_part, part_left}
 use Rattle.ir_laws.proofs.PlantLemmas.{label_in, sort-plant}
-use Rattle.ir_table.specs.Fits.{part_sort, is_list_of, kids_fit, FitsRow}
-use Rattle.ir_table.specs.Kinds.{Fields, heap_of, layer_of, tys_kids, tys_layer, variable_field, variable_seen, variables_layer}
+use Rattle.ir_core.specs.Parts.{same_part_sort, sort_in}
+use Rattle.ir_core.specs.declared.handles.PartSort.{PartSort}
+use Rattle.ir_core.specs.declared.handles.PartSort.TheVariants as handle
+use Rattle.ir_table.specs.declared.nodes.Field.{Field as NodeField}
+use Rattle.ir_table.specs.declared.nodes.Field.TheVariants as node
+use Rattle.ir_table.specs.Fits.{are_of_forms, handle_sort, is_of, is_list_of, kids_fit, part_sort, term_sort}
+use Rattle.ir_table.specs.Heaps.{heap_of}
+use Rattle.ir_table.specs.Nodes.{Fields, tys_kids, tys_layer, variable_field, variable_seen, variables_layer}
+use Rattle.ir_table.specs.Nodes as table
 use Rattle.ir_table.specs.declared.store.Tables.{Tables}
-use Rattle.ir_table.proofs.PartLemmas.{variables_bind}
+use Rattle.ir_table.proofs.CallerLemmas.{AllFit, live_binder, makes_err, makes_new, makes_none, makes_ok, makes_same, makes_then, same_fits}
 use Rattle.ir_table.specs.State.{State, NewAnswers, Makes}
-use Rattle.ir_table.proofs.MakesLemmas.{makes_none, makes_new, makes_then, makes_err, makes_same, makes_ok}
 use Rattle.ir_script.specs.declared.phrases.Phrase as code
 use Rattle.ir_script.specs.declared.phrases.Field.{Field}
 use Rattle.ir_script.specs.declared.phrases.Field.TheVariants.{Chosen, Number, OfKind}
@@ -55,7 +62,7 @@ use Rattle.ir_script.specs.declared.phrases.VariableKind.{VariableKind}
 use Rattle.ir_script.specs.declared.phrases.VariableKind.TheVariants as variable
 use Rattle.ir_script.specs.Built.{Suits, AllSuit, Binds, Builds, BuildsAll}
 use Rattle.ir_script.specs.Causes.{no_names}
-use Rattle.ir_script.specs.Makeable.{is_nameless, is_nameless_field, is_nameless_bind, label_makeable, list_label, sort_named, phrase_sort, is_makeable, kids_makeable, is_list_makeable, all_makeable, is_buildable}
+use Rattle.ir_script.specs.Makeable.{is_nameless, is_nameless_field, is_nameless_bind, is_list, label_makeable, list_label, sort_named, phrase_sort, is_makeable, kids_makeable, is_list_makeable, all_makeable, is_buildable}
 use Rattle.ir_script.specs.Phrases.{kind_seen, field_seen, label_seen, bind_seen, phrase_seen, phrases_seen}
 use Rattle.ir_laws.specs.Environment.{Environment}
 use Rattle.ir_script.specs.Scope.{Named, part_named, env_of, AreTerms}
@@ -66,12 +73,16 @@ use Rattle.ir_script.proofs.MakeableLemmas.{among_passes, label_is, list_is}
 use Rattle.ir_script.proofs.MadeLemmas.{is_counted_word, words_are_counted, label_counted, below_is_part, last_is_part, part_is_last, makes_memory}
 use Rattle.ir_script.proofs.TreeLemmas.{is_node_word, is_known, words_are_known, no_group, nothing_named, variable_row, node_made, variable_made, label_tree, no_kids, all_built_planted}
 
+-- a layer with these fields, this binder and these kids
+abbrev pub layer_with : Word → Fields → Option BoundVarKinds → List Part → Layer Part
+layer_with w fs b ps = record { label = record { word = w; fields = fs }; binder = option_map part.BoundVarKinds b; kids = OfNames ps }
+
 -- ---- words that are built
 
--- each list that is a kid is one of types
+-- each list that is a kid is one of types, and no other kid is a list
 abbrev lists_are_types : List KidForm → Bool
 lists_are_types [] = true
-lists_are_types (OneOf sort ∷ forms) = lists_are_types forms
+lists_are_types (OneOf sort ∷ forms) = not (same_sort sort OfList) && lists_are_types forms
 lists_are_types (TypeOrConstant ∷ forms) = lists_are_types forms
 lists_are_types (ListOf list sort empty ∷ forms) = (same_word list TypeList && same_sort sort OfType) && lists_are_types forms
 lists_are_types (ArgumentsOf count ∷ forms) = lists_are_types forms
@@ -81,11 +92,72 @@ built_lists = refl
 
 -- ---- kids that are built
 
+-- a list that is built is one of types
+abbrev is_only_list : Word → Bool
+is_only_list w = not (is_list w) || same_word w TypeList
+
+words_are_only_lists : list_all is_only_list label_words ≡ true
+words_are_only_lists = refl
+
 same_word_is : (v w : Word) → same_word v w ≡ true → v ≡ w
 same_word_is v w = (word_decides v w).0
 
 same_sort_is : (s t : Sort) → same_sort s t ≡ true → s ≡ t
 same_sort_is s t = (sort_decides s t).0
+
+-- a handle of the sort that is wanted
+wanted_sort : (g : PartSort) (s : Sort) → handle_sort g ≡ s → not (same_sort s OfList) ≡ true → is_of g (term_sort s) ≡ true
+wanted_sort g s is other = subst (λ t. is_of g (term_sort t) ≡ true) is (by g (ap (λ t. not (same_sort t OfList)) is ∙ other))
+  where
+    by : (g : PartSort) → not (same_sort (handle_sort g) OfList) ≡ true → is_of g (term_sort (handle_sort g)) ≡ true
+    by handle.Ty e = refl
+    by handle.Const e = refl
+    by handle.Region e = refl
+    by _ e = absurd (false≢true e)
+
+either_sort : (g : PartSort) → (same_sort (handle_sort g) OfType || same_sort (handle_sort g) OfConstant) ≡ (same_part_sort g handle.Ty || same_part_sort g handle.Const)
+either_sort handle.Ty = refl
+either_sort handle.Const = refl
+either_sort handle.Region = refl
+either_sort handle.Tys = refl
+either_sort handle.GenericArgs = refl
+either_sort handle.PatList = refl
+either_sort handle.BoundExistentialPredicates = refl
+either_sort handle.Clauses = refl
+either_sort handle.RegionAssumptions = refl
+either_sort handle.BoundVarKinds = refl
+either_sort handle.VariancesOf = refl
+
+-- a label that is built and no list is a term's, by its word or by the kind that is its last field
+abbrev ends_by_kind : List FieldForm → Bool
+ends_by_kind (AVariableKind ∷ []) = true
+ends_by_kind (ANumber ∷ forms) = ends_by_kind forms
+ends_by_kind forms = false
+
+abbrev is_term_word : Word → Bool
+is_term_word w = is_list w || elim ((row w).sort) [ Always s ↦ is_some (term_sort s) | ByKind ↦ ends_by_kind (field_forms (row w).parts) ]
+
+words_are_terms : list_all is_term_word label_words ≡ true
+words_are_terms = refl
+
+-- what the making of a node wants of its word, fields, binder and kids
+pub record FitsNode (w : Word) (fs : List NodeField) (v : Option BoundVarKinds) (qs : List Part) : Type 0 where
+  pub fields : are_of_forms (field_forms (row w).parts) fs ≡ true
+  pub binder : is_some v ≡ has_for_group (row w).parts
+  pub kids : kids_fit (kid_forms (row w).parts) qs ≡ true
+  pub sort : is_some (term_sort (sort_of_label (record { word = w; fields = map table.field_seen fs }))) ≡ true
+
+kind_term : (v : BoundVarKind) → is_some (term_sort (variable_seen v).sort) ≡ true
+kind_term (kind.Ty k) = refl
+kind_term (kind.Region k) = refl
+kind_term kind.Const = refl
+
+fields_term : (forms : List FieldForm) (fs : List NodeField) → ends_by_kind forms ≡ true → are_of_forms forms fs ≡ true → is_some (term_sort (sort_of_fields (map table.field_seen fs))) ≡ true
+fields_term (AVariableKind ∷ []) (node.OfKind v ∷ []) ends e = kind_term v
+fields_term (AVariableKind ∷ []) fs ends e = absurd (false≢true e)
+fields_term (ANumber ∷ forms) (node.Number n ∷ fs) ends e = fields_term forms fs ends e
+fields_term (ANumber ∷ forms) fs ends e = absurd (false≢true e)
+fields_term forms fs ends e = absurd (false≢true ends)
 
 -- a kind and a field where names are looked up, of which there are none
 abbrev pub kind_kept : VariableKind → Kind SolverDefId
@@ -107,12 +179,12 @@ kind_is_kept env (variable.Region (Some name)) h = absurd (false≢true h)
 kind_is_kept env variable.Environment h = refl
 kind_is_kept env variable.Constant h = refl
 
-field_is_kept : (env : Environment) (field : Field) → is_nameless_field (field_seen field) ≡ true → field_in env (field_seen field) ≡ Some (kept field)
+field_is_kept : (env : Environment) (field : Field) → is_nameless_field (field_seen field) ≡ true → field_meant env (field_seen field) ≡ Some (kept field)
 field_is_kept env (Chosen word) h = refl
 field_is_kept env (Number n) h = refl
 field_is_kept env (OfKind k) h = ap (option_map tree.OfKind) (kind_is_kept env k h)
 
-pub each_kept : (env : Environment) (fields : List Field) → list_all is_nameless_field (map field_seen fields) ≡ true → each_of (field_in env) (map field_seen fields) ≡ Some (map kept fields)
+pub each_kept : (env : Environment) (fields : List Field) → list_all is_nameless_field (map field_seen fields) ≡ true → each_of (field_meant env) (map field_seen fields) ≡ Some (map kept fields)
 each_kept env [] h = refl
 each_kept env (field ∷ fields) h =
     let both = and_parts (is_nameless_field (field_seen field)) (list_all is_nameless_field (map field_seen fields)) h in
@@ -152,7 +224,7 @@ group_is h row (Some kinds) None fits e = absurd cc
 group_is h row (Some kinds) (Some v) fits e = fits
 
 -- the fields are those that are kept
-are_kept : (fields : List Field) (fs : Fields) → list_all is_nameless_field (map field_seen fields) ≡ true → each_of (field_in no_names) (map field_seen fields) ≡ Some fs → fs ≡ map kept fields
+are_kept : (fields : List Field) (fs : Fields) → list_all is_nameless_field (map field_seen fields) ≡ true → each_of (field_meant no_names) (map field_seen fields) ≡ Some fs → fs ≡ map kept fields
 are_kept fields fs h e = same_Some fs (map kept fields) (sym e ∙ each_kept no_names fields h)
 
 field_alike : (form : FieldForm) (field : Field) → field_fits form (field_seen field) ≡ field_fits form (kept field)
@@ -216,7 +288,7 @@ module _ (ns : List Named) where
   kids_buildable (OneOf sort ∷ forms) (ThenPhrase p ps) types makes =
       let a = and_parts (is_makeable ns p && same_sort (phrase_sort ns p) sort) (kids_makeable ns forms ps) makes in
       let b = and_parts (is_makeable ns p) (same_sort (phrase_sort ns p) sort) a.0 in
-      and_from _ _ (or_left _ _ b.0) (kids_buildable forms ps types a.1)
+      and_from _ _ (or_left _ _ b.0) (kids_buildable forms ps (and_parts (not (same_sort sort OfList)) (lists_are_types forms) types).1 a.1)
   kids_buildable (TypeOrConstant ∷ forms) (ThenPhrase p ps) types makes =
       let a = and_parts _ (kids_makeable ns forms ps) makes in
       let b = and_parts (is_makeable ns p) _ a.0 in
@@ -252,11 +324,12 @@ module _ (ns : List Named) where
   parts_fit (OneOf sort ∷ forms) (ThenPhrase p ps) (q ∷ qs) types makes suit =
       let a = and_parts (is_makeable ns p && same_sort (phrase_sort ns p) sort) (kids_makeable ns forms ps) makes in
       let b = and_parts (is_makeable ns p) (same_sort (phrase_sort ns p) sort) a.0 in
-      and_from _ _ (ap (λ s. same_sort s sort) suit.0.sort ∙ b.1) (parts_fit forms ps qs types a.1 suit.1)
+      let t = and_parts (not (same_sort sort OfList)) (lists_are_types forms) types in
+      and_from _ _ (wanted_sort (sort_in q) sort (suit.0.sort ∙ same_sort_is (phrase_sort ns p) sort b.1) t.0) (parts_fit forms ps qs t.1 a.1 suit.1)
   parts_fit (TypeOrConstant ∷ forms) (ThenPhrase p ps) (q ∷ qs) types makes suit =
       let a = and_parts (is_makeable ns p && (same_sort (phrase_sort ns p) OfType || same_sort (phrase_sort ns p) OfConstant)) (kids_makeable ns forms ps) makes in
       let b = and_parts (is_makeable ns p) (same_sort (phrase_sort ns p) OfType || same_sort (phrase_sort ns p) OfConstant) a.0 in
-      and_from _ _ (ap (λ s. same_sort s OfType || same_sort s OfConstant) suit.0.sort ∙ b.1) (parts_fit forms ps qs types a.1 suit.1)
+      and_from _ _ (sym (either_sort (sort_in q)) ∙ ap (λ s. same_sort s OfType || same_sort s OfConstant) suit.0.sort ∙ b.1) (parts_fit forms ps qs types a.1 suit.1)
   parts_fit (ListOf list sort empty ∷ forms) (ThenPhrase p ps) (q ∷ qs) types makes suit =
       let a = and_parts (is_list_makeable ns list sort p) (kids_makeable ns forms ps) makes in
       let b = and_parts (same_word list TypeList && same_sort sort OfType) (lists_are_types forms) types in
@@ -353,10 +426,10 @@ variables_tree : (h : Heap Part) (vs : List BoundVarKind) → variable_list (map
 variables_tree h vs = ap (λ (fs : Fields). Node (record { word = VariableList; fields = fs }) None End) (fields_of_kinds vs)
 
 -- the kinds in a list of variables are those of its tree
-kinds_told : (t : Tables) → IsSound (heap_of t) → (v : BoundVarKinds) (vs : List BoundVarKind) (h : Heap Part) → IsLive (heap_of t) (part.BoundVarKinds v) → tree_of (heap_of t) (part.BoundVarKinds v) ≡ tree_above h (variables_layer vs)
+kinds_told : (t : Tables) → IsSound (heap_of t) → AllFit (heap_of t) → (v : BoundVarKinds) (vs : List BoundVarKind) (h : Heap Part) → IsLive (heap_of t) (part.BoundVarKinds v) → tree_of (heap_of t) (part.BoundVarKinds v) ≡ tree_above h (variables_layer vs)
     → kinds_at (heap_of t) (part.BoundVarKinds v) ≡ map variable_seen vs
-kinds_told t sound v vs h live is =
-    let own = binder_tree (heap_of t) sound (part.BoundVarKinds v) (variables_bind t v live) in
+kinds_told t sound fit v vs h live is =
+    let own = binder_tree (heap_of t) sound (part.BoundVarKinds v) (live_binder t fit v live) in
     let same : variable_list (kinds_at (heap_of t) (part.BoundVarKinds v)) ≡ variable_list (map variable_seen vs) = sym own.1 ∙ is ∙ sym (variables_tree h vs) in
     sym (kinds_of_kinds (kinds_at (heap_of t) (part.BoundVarKinds v))) ∙ ap (λ (u : Term). kinds_among (label_in u).fields) same ∙ kinds_of_kinds (map variable_seen vs)
 
@@ -384,8 +457,8 @@ module _ (s : State) (ks : List (Kind Text)) (vs : List BoundVarKind) (found : e
     kinds = tt;
   }
 
-  pub binds_made : (t : Tables) (new : State) → new.heap ≡ heap_of t → IsSound (heap_of t) → (v : BoundVarKinds) → Counts s.heap s.count → NewAnswers part.BoundVarKinds s new (variables_layer vs) (Ok v) → Binds s new (Some ks) (Ok (Some v))
-  binds_made t new is sound v counts a =
+  pub binds_made : (t : Tables) (new : State) → new.heap ≡ heap_of t → IsSound (heap_of t) → AllFit (heap_of t) → (v : BoundVarKinds) → Counts s.heap s.count → NewAnswers part.BoundVarKinds s new (variables_layer vs) (Ok v) → Binds s new (Some ks) (Ok (Some v))
+  binds_made t new is sound fit v counts a =
       let live = subst (λ h. IsLive h (part.BoundVarKinds v)) is a.ok.live in
       let tree = ap (λ h. tree_of h (part.BoundVarKinds v)) (sym is) ∙ a.ok.tree in
       record {
@@ -394,7 +467,7 @@ module _ (s : State) (ks : List (Kind Text)) (vs : List BoundVarKind) (found : e
         makes = makes_ok s new (variable_list (map variable_seen vs) ∷ []) v (Some v)
             (makes_new s new (variables_layer vs) (Ok v) (variable_list (map variable_seen vs)) counts (variables_tree s.heap vs) a);
         live = (a.ok.live, tt);
-        kinds = ap Some (ap (λ h. kinds_at h (part.BoundVarKinds v)) is ∙ kinds_told t sound v vs s.heap live tree);
+        kinds = ap Some (ap (λ h. kinds_at h (part.BoundVarKinds v)) is ∙ kinds_told t sound fit v vs s.heap live tree);
       }
 
 -- what is said of the kinds of a group is said of the group
@@ -425,7 +498,7 @@ module _ (env : Environment) (ns : List Named) where
   -- the part is live, stands for the phrase's tree and suits the phrase
   pub record IsBuilt (h : Heap Part) (p : code.Phrase) (q : Part) : Type 0 where
     pub live : IsLive h q
-    pub tree : environment.tree_of env (phrase_seen p) ≡ Some (tree_of h q)
+    pub tree : environment.tree_in env (phrase_seen p) ≡ Some (tree_of h q)
     pub suits : Suits ns (phrase_seen p) q
 
   -- the parts are those of the phrases
@@ -471,12 +544,12 @@ module _ (env : Environment) (ns : List Named) where
   parts_maybe (Some t) = parts t
 
   abbrev pub own_parts : code.Phrase → List Term
-  own_parts p = parts_maybe (environment.tree_of env (phrase_seen p))
+  own_parts p = parts_maybe (environment.tree_in env (phrase_seen p))
 
   -- those of several are the parts of their trees
   parts_together : (ps : List code.Phrase) (ts : Terms) → trees_of env (phrases_seen ps) ≡ Some ts → flat_map own_parts ps ≡ all_parts ts
   parts_together [] ts e = ap all_parts (same_Some End ts e)
-  parts_together (p ∷ ps) ts e = by (environment.tree_of env (phrase_seen p)) (trees_of env (phrases_seen ps)) e (parts_together ps)
+  parts_together (p ∷ ps) ts e = by (environment.tree_in env (phrase_seen p)) (trees_of env (phrases_seen ps)) e (parts_together ps)
     where
       by : (o : Option Term) (os : Option Terms) → cons_term o os ≡ Some ts → ((us : Terms) → os ≡ Some us → flat_map own_parts ps ≡ all_parts us) → parts_maybe o ++ flat_map own_parts ps ≡ all_parts ts
       by None os e rest = absurd (cc)
@@ -560,7 +633,7 @@ pub kind_at : (kinds : List VariableKind) (i : ℕ) (kind : VariableKind) → i 
 kind_at kinds i kind below is all = all_at (λ k. is_nameless (kind_seen k)) kinds i kind below is (seen_all is_nameless kind_seen kinds ∙ all)
 
 -- what is found without a name is what is kept
-pub field_same : (field : Field) (f : tree.Field SolverDefId) → is_nameless_field (field_seen field) ≡ true → field_in no_names (field_seen field) ≡ Some f → f ≡ kept field
+pub field_same : (field : Field) (f : tree.Field SolverDefId) → is_nameless_field (field_seen field) ≡ true → field_meant no_names (field_seen field) ≡ Some f → f ≡ kept field
 field_same field f h e = same_Some f (kept field) (sym e ∙ field_is_kept no_names field h)
 
 pub kind_same : (kind : VariableKind) (k : Kind SolverDefId) → is_nameless (kind_seen kind) ≡ true → kind_in no_names (kind_seen kind) ≡ Some k → k ≡ kind_kept kind
@@ -622,8 +695,8 @@ module _ {env : Environment} {ns : List Named} {p : Phrase} {word : Word} {field
     | inr variable ↦ bare (same_word_is word BoundVariable variable) ts trees
   ]
 
-  tree_seen : (ts : Terms) → trees_of env (phrases_seen ks) ≡ Some ts → environment.tree_of env p ≡ Some (own_tree word fields bind ts)
-  tree_seen ts trees = ap (environment.tree_of env) l.is
+  tree_seen : (ts : Terms) → trees_of env (phrases_seen ks) ≡ Some ts → environment.tree_in env p ≡ Some (own_tree word fields bind ts)
+  tree_seen ts trees = ap (environment.tree_in env) l.is
       ∙ label_tree env (label_seen word fields) (bind_seen bind) (phrases_seen ks) (map kept fields) (binds_kept bind) ts (own_tree word fields bind ts)
       (each_kept env fields own_nameless) (bind_is_kept env bind bind_nameless) trees (made_tree ts trees)
 
@@ -658,34 +731,53 @@ module _ {env : Environment} {ns : List Named} {p : Phrase} {word : Word} {field
   pub binder_refused : (old mid new : State) (made : Vec Part Global) (e : TermError) → BuildsAll env ns old mid (phrases_seen ks) (Ok made) → Binds mid new (bind_seen bind) (Err e) → Builds env ns old new p (Err e)
   binder_refused old mid new made e kids binds = refused old new e kids.made kids.trees (both_make old mid new made kids (Err e) binds)
 
+  -- a list is one of types
+  pub types_listed : is_list word ≡ true → word ≡ TypeList
+  types_listed list = elim (or_cases (not (is_list word)) (same_word word TypeList) (label_passes ns is_only_list words_are_only_lists refl (label_seen word fields) (bind_seen bind) (phrases_seen ks) own_buildable)) [
+    | inl none ↦ absurd (false≢true (ap not (sym list) ∙ none))
+    | inr types ↦ same_word_is word TypeList types
+  ]
+
+  pub none_listed : is_list word ≡ false → word ≡ TypeList → ⊥
+  none_listed none list = false≢true (sym none ∙ ap is_list list)
+
   pub label_types : word ≡ TypeList → (qs : List Part) → AllSuit ns (phrases_seen ks) qs → Each (λ q. part_sort q ≡ OfType) qs
   label_types list qs suit = members_typed ns (phrases_seen ks) qs (list_parts ns (label_seen word fields) (bind_seen bind) (phrases_seen ks) list own_buildable).2 suit
 
   pub list_binds : word ≡ TypeList → (s : State) → Binds s s (bind_seen bind) (Ok None)
   list_binds list s = binds_nothing s (bind_seen bind) (list_parts ns (label_seen word fields) (bind_seen bind) (phrases_seen ks) list own_buildable).1
 
-  pub list_layer : word ≡ TypeList → (ts : List Ty) → tys_layer ts ≡ layer_of word (map kept fields) None (tys_kids ts)
+  pub list_layer : word ≡ TypeList → (ts : List Ty) → tys_layer ts ≡ layer_with word (map kept fields) None (tys_kids ts)
   list_layer list ts =
       let none = no_fields_kept fields (list_parts ns (label_seen word fields) (bind_seen bind) (phrases_seen ks) list own_buildable).0 in
-      (λ i. layer_of (sym list i) (none i) None (tys_kids ts))
+      (λ i. layer_with (sym list i) (none i) None (tys_kids ts))
 
-  pub label_fits : (word ≡ TypeList → ⊥) → (fs : Fields) → each_of (field_in no_names) (map field_seen fields) ≡ Some fs → (qs : List Part) → AllSuit ns (phrases_seen ks) qs
-      → {old new : State} (v : Option BoundVarKinds) → Binds old new (bind_seen bind) (Ok v) → FitsRow word fs v qs
-  label_fits other fs each qs suit {new = new} v binds =
-      let parts = parts_of_label other in
+  label_term : is_list word ≡ false → (fs : List NodeField) → are_of_forms (field_forms (row word).parts) fs ≡ true → is_some (term_sort (sort_of_label (record { word = word; fields = map table.field_seen fs }))) ≡ true
+  label_term none fs fit = by ((row word).sort) (ap (λ b. b || elim ((row word).sort) [ Always s ↦ is_some (term_sort s) | ByKind ↦ ends_by_kind (field_forms (row word).parts) ]) (sym none)
+      ∙ label_passes ns is_term_word words_are_terms refl (label_seen word fields) (bind_seen bind) (phrases_seen ks) own_buildable)
+    where
+      by : (s : LabelSort) → elim s [ Always s ↦ is_some (term_sort s) | ByKind ↦ ends_by_kind (field_forms (row word).parts) ] ≡ true → is_some (term_sort (elim s [ Always s ↦ s | ByKind ↦ sort_of_fields (map table.field_seen fs) ])) ≡ true
+      by (Always s) e = e
+      by ByKind e = fields_term (field_forms (row word).parts) fs e fit
+
+  pub label_fits : (is_list word ≡ false) → (fs : List NodeField) → each_of (field_meant no_names) (map field_seen fields) ≡ Some (map table.field_seen fs) → (qs : List Part) → AllSuit ns (phrases_seen ks) qs
+      → {old new : State} (v : Option BoundVarKinds) → Binds old new (bind_seen bind) (Ok v) → FitsNode word fs v qs
+  label_fits none fs each qs suit {new = new} v binds =
+      let parts = parts_of_label (none_listed none) in
+      let fit = sym (same_fits (field_forms (row word).parts) fs) ∙ ap (fields_fit (field_forms (row word).parts)) (are_kept fields (map table.field_seen fs) own_nameless each) ∙ kept_fits (none_listed none) in
       record {
-        built = parts.0;
-        fields = ap (fields_fit (field_forms (row word).parts)) (are_kept fields fs own_nameless each) ∙ kept_fits other;
-        binder = group_is new.heap (row word).parts bind v nameless.2 (binds.kinds ∙ bound_is binds);
+        fields = fit;
+        binder = sym (group_is new.heap (row word).parts bind v nameless.2 (binds.kinds ∙ bound_is binds));
         kids = parts_fit ns (kid_forms (row word).parts) (phrases_seen ks) qs (row_lists word parts.0) parts.2 suit;
+        sort = label_term none fs fit;
       }
 
-  pub label_layer : (own : Layer Part) (fs : Fields) (v : Option BoundVarKinds) (qs : List Part) → own ≡ layer_of word fs v qs → each_of (field_in no_names) (map field_seen fields) ≡ Some fs → own ≡ layer_of word (map kept fields) v qs
-  label_layer own fs v qs own_is each = own_is ∙ ap (λ gs. layer_of word gs v qs) (are_kept fields fs own_nameless each)
+  pub label_layer : (own : Layer Part) (fs : Fields) (v : Option BoundVarKinds) (qs : List Part) → own ≡ layer_with word fs v qs → each_of (field_meant no_names) (map field_seen fields) ≡ Some fs → own ≡ layer_with word (map kept fields) v qs
+  label_layer own fs v qs own_is each = own_is ∙ ap (λ gs. layer_with word gs v qs) (are_kept fields fs own_nameless each)
 
   -- the names in its layer are live
   pub label_live : (old mid bound : State) (made : Vec Part Global) → BuildsAll env ns old mid (phrases_seen ks) (Ok made) → (v : Option BoundVarKinds) → Binds mid bound (bind_seen bind) (Ok v)
-      → (qs : List Part) → qs ≡ made.items → (own : Layer Part) (fs : Fields) → own ≡ layer_of word fs v qs → Each (IsLive bound.heap) (names_in own)
+      → (qs : List Part) → qs ≡ made.items → (own : Layer Part) (fs : Fields) → own ≡ layer_with word fs v qs → Each (IsLive bound.heap) (names_in own)
   label_live old mid bound made kids v binds qs same own fs own_is =
       let live = Each-map (IsLive mid.heap) (IsLive bound.heap) binds.makes.grows.live made.items kids.live in
       subst (λ (o : Layer Part). Each (IsLive bound.heap) (names_in o)) (sym own_is) (subst (λ os. Each (IsLive bound.heap) (with_binder (option_map part.BoundVarKinds v) os)) (sym same) (both v binds.live made.items live))
@@ -700,7 +792,7 @@ module _ {env : Environment} {ns : List Named} {p : Phrase} {word : Word} {field
 
   -- once its kids' parts and the list of what it binds are made, the node is
   module _ (old mid bound new : State) (made : Vec Part Global) (kids : BuildsAll env ns old mid (phrases_seen ks) (Ok made)) (v : Option BoundVarKinds) (binds : Binds mid bound (bind_seen bind) (Ok v)) (counts : Counts bound.heap bound.count)
-      (qs : List Part) (same : qs ≡ made.items) (own : Layer Part) (own_is : own ≡ layer_of word (map kept fields) v qs) where
+      (qs : List Part) (same : qs ≡ made.items) (own : Layer Part) (own_is : own ≡ layer_with word (map kept fields) v qs) where
     kids_stand : forest (tree_of bound.heap) qs ≡ kids.made
     kids_stand = ap (forest (tree_of bound.heap)) same
         ∙ forest-same (tree_of bound.heap) (tree_of mid.heap) made.items (Each-map (IsLive mid.heap) (λ q. tree_of bound.heap q ≡ tree_of mid.heap q) binds.makes.grows.tree made.items kids.live)
@@ -757,7 +849,7 @@ name_built s ns phrase name bytes q sound terms is same found =
     let here : part_named ns name ≡ Some q = ap (part_named ns) (sym same) ∙ found in
     record {
       made = tree_of s.heap q;
-      tree = ap (λ p. environment.tree_of (env_of s.heap ns) (phrase_seen p)) is ∙ term_is s.heap ns name ∙ ap (option_map (tree_of s.heap)) here;
+      tree = ap (λ p. environment.tree_in (env_of s.heap ns) (phrase_seen p)) is ∙ term_is s.heap ns name ∙ ap (option_map (tree_of s.heap)) here;
       makes = makes_standing s q t.live (parts_stand s.heap sound (tree_of s.heap q) q t.live refl);
       live = t.live;
       stands = refl;

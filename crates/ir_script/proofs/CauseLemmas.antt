@@ -1,7 +1,7 @@
 -- Causes that stay among more of them.
-use Rattle.std.proofs.Common.{◌≡◌, Bool, true, false, ◌||◌, List, [], ◌∷◌, ◌++◌, Option, Some, None, is_some, refl, nat_eq}
+use Rattle.std.proofs.Common.{◌≡◌, Bool, true, false, ◌||◌, List, [], ◌∷◌, ◌++◌, Option, Some, None, is_some, refl}
 use Rattle.ir_laws.specs.Cause as spec
-use Rattle.ir_laws.specs.Cause.{cause_number, is_cause_among}
+use Rattle.ir_laws.specs.Cause.{same_cause, is_cause_among}
 use Rattle.ir_script.specs.declared.causes.Cause.{Cause}
 use Rattle.ir_script.specs.Causes.{cause_seen, IsAmong, Says, Finds}
 
@@ -11,7 +11,7 @@ or_more false x y f h = f h
 
 pub among_left : (cs ds : List spec.Cause) (c : spec.Cause) → is_cause_among cs c ≡ true → is_cause_among (cs ++ ds) c ≡ true
 among_left [] ds c h = cc
-among_left (d ∷ cs) ds c h = or_more (nat_eq (cause_number d) (cause_number c)) (is_cause_among cs c) (is_cause_among (cs ++ ds) c) (among_left cs ds c) h
+among_left (d ∷ cs) ds c h = or_more (same_cause d c) (is_cause_among cs c) (is_cause_among (cs ++ ds) c) (among_left cs ds c) h
 
 or_last : (b x : Bool) → x ≡ true → (b || x) ≡ true
 or_last true x h = refl
@@ -19,7 +19,7 @@ or_last false x h = h
 
 pub among_right : (cs ds : List spec.Cause) (c : spec.Cause) → is_cause_among ds c ≡ true → is_cause_among (cs ++ ds) c ≡ true
 among_right [] ds c h = h
-among_right (d ∷ cs) ds c h = or_last (nat_eq (cause_number d) (cause_number c)) (is_cause_among (cs ++ ds) c) (among_right cs ds c h)
+among_right (d ∷ cs) ds c h = or_last (same_cause d c) (is_cause_among (cs ++ ds) c) (among_right cs ds c h)
 
 is_among_left : (cs ds : List spec.Cause) (o : Option spec.Cause) → IsAmong cs o → IsAmong (cs ++ ds) o
 is_among_left cs ds (Some c) h = among_left cs ds c h

@@ -6,7 +6,7 @@ use Rattle.ir_laws.specs.Tree.{Text}
 use Rattle.ir_laws.specs.Answer.{flag_texts}
 use Rattle.ir_laws.specs.Spelling.{spaced}
 use Rattle.ir_table.specs.Spelled.{after_each}
-use Rattle.ir_table.proofs.SpellingLemmas.{put_both, spaced-after_each}
+use Rattle.ir_table.proofs.CallerLemmas.{put_both, spaced-after_each}
 
 -- the words from here on, by whether the first flag is in the set
 abbrev texts_by : ℕ → Text → List Text → Bool → List Text

@@ -12,7 +12,7 @@ use Rattle.ir_laws.specs.Cause.{is_cause_among}
 use Rattle.ir_laws.specs.Causes.{are_listed}
 use Rattle.ir_laws.specs.Counts.{size}
 use Rattle.ir_laws.specs.Elaboration.{all_fit}
-use Rattle.ir_laws.specs.Environment.{is_known, tree_of as tree_in, with_own, with_term}
+use Rattle.ir_laws.specs.Environment.{is_known, tree_in, with_own, with_term}
 use Rattle.ir_laws.specs.Form.{Form, Let, Print, Same, Flags}
 use Rattle.ir_laws.specs.Formed.{is_formed}
 use Rattle.ir_laws.specs.Heap.{Heap, IsLive, tree_of}
@@ -33,8 +33,7 @@ use Rattle.ir_table.specs.declared.Interner.{Interner}
 use Rattle.ir_table.specs.Fits.{part_sort}
 use Rattle.ir_table.specs.Interner.{heap, state}
 use Rattle.ir_table.specs.State.{State, Makes}
-use Rattle.ir_table.proofs.CallerLemmas.{live_sort}
-use Rattle.ir_table.proofs.MakesLemmas.{makes_held, makes_then, makes_err}
+use Rattle.ir_table.proofs.CallerLemmas.{live_sort, makes_err, makes_held, makes_then}
 use Rattle.ir_script.specs.declared.causes.Cause.{Cause}
 use Rattle.ir_script.specs.declared.causes.Cause.TheVariants as code
 use Rattle.ir_script.specs.Answered.{AnswersForm, MakesTerm, YesOrNo, causes_met, left_by}

@@ -20,9 +20,9 @@ use Rattle.ir_laws.specs.Label.{row}
 use Rattle.ir_laws.specs.Names.{field_forms}
 use Rattle.ir_laws.specs.Parts.{has_for_group}
 use Rattle.ir_laws.specs.Phrase.{Phrase, Phrases, Name, Labelled, NoPhrase, ThenPhrase, and_then, cons_if, each_of}
-use Rattle.ir_laws.specs.Environment.{Environment, id_of, term_named, tree_of, trees_of, tree_made, variable_of, parameter_of, kind_in, field_in, bind_in, cons_term}
+use Rattle.ir_laws.specs.Environment.{Environment, id_of, term_named, tree_in, trees_of, tree_made, variable_of, parameter_of, kind_in, field_meant, bind_in, cons_term}
 use Rattle.ir_laws.specs.Formed.{kid_forms, field_fits, fields_fit, bind_fits, has_no_fields}
-use Rattle.ir_laws.specs.Heap.{Heap, leaf_by, plant, tree_of as tree_at}
+use Rattle.ir_laws.specs.Heap.{Heap, leaf_by, plant, tree_of}
 use Rattle.ir_laws.proofs.FormedLemmas.{number_fits}
 use Rattle.ir_laws.proofs.PlantLemmas.{made_planted}
 use Rattle.ir_laws.proofs.SameParts.{word_decides}
@@ -140,7 +140,7 @@ variable_made l b ts word fields none no_kids =
 
 -- the tree of a label, where names are looked up and kids have trees
 pub label_tree : (env : Environment) (l : Label Text) (b : Option (List (Kind Text))) (ps : Phrases) (fs : List (Field SolverDefId)) (c : Option (List (Kind SolverDefId))) (ts : Terms) (t : Term)
-    → each_of (field_in env) l.fields ≡ Some fs → bind_in env b ≡ Some c → trees_of env ps ≡ Some ts → tree_made (record { word = l.word; fields = fs }) c ts ≡ Some t → tree_of env (Labelled l b ps) ≡ Some t
+    → each_of (field_meant env) l.fields ≡ Some fs → bind_in env b ≡ Some c → trees_of env ps ≡ Some ts → tree_made (record { word = l.word; fields = fs }) c ts ≡ Some t → tree_in env (Labelled l b ps) ≡ Some t
 label_tree env l b ps fs c ts t fields bind kids made =
     (λ i. and_then (option_map (λ gs. let m : Label SolverDefId = record { word = l.word; fields = gs } in m) (fields i)) (λ label. and_then (bind i) (λ d. and_then (kids i) (tree_made label d)))) ∙ made
 
@@ -166,14 +166,14 @@ module _ (h : Heap Part) (ns : List Named) where
       by EnvName h = (record { sort = k.sort; name = EnvName }, refl)
       by (Called name) h = absurd (true≢false (sym h))
 
-  field_found : (f : Field Text) → is_nameless_field f ≡ true → (g : Field SolverDefId) × (field_in env f ≡ Some g)
+  field_found : (f : Field Text) → is_nameless_field f ≡ true → (g : Field SolverDefId) × (field_meant env f ≡ Some g)
   field_found (Number n) h = (Number n, refl)
   field_found (Item name) h = absurd (true≢false (sym h))
   field_found (Chosen word) h = (Chosen word, refl)
   field_found (OfKind k) h = let r = kind_found k h in (OfKind r.0, ap (option_map OfKind) r.1)
   field_found (Memory bytes mapped) h = (Memory bytes mapped, refl)
 
-  fields_found : (fs : List (Field Text)) → list_all is_nameless_field fs ≡ true → (gs : List (Field SolverDefId)) × (each_of (field_in env) fs ≡ Some gs)
+  fields_found : (fs : List (Field Text)) → list_all is_nameless_field fs ≡ true → (gs : List (Field SolverDefId)) × (each_of (field_meant env) fs ≡ Some gs)
   fields_found [] h = ([], refl)
   fields_found (f ∷ fs) h =
       let both = and_parts (is_nameless_field f) (list_all is_nameless_field fs) h in
@@ -196,7 +196,7 @@ module _ (h : Heap Part) (ns : List Named) where
   -- ---- what can be made has a tree
 
   abbrev pub Planted : Phrase → Type 0
-  Planted p = (t : Term) × (tree_of env p ≡ Some t)
+  Planted p = (t : Term) × (tree_in env p ≡ Some t)
 
   abbrev pub AllPlanted : Phrases → Type 0
   AllPlanted ps = (ts : Terms) × (trees_of env ps ≡ Some ts)
@@ -205,9 +205,9 @@ module _ (h : Heap Part) (ns : List Named) where
   name_planted : (name : Text) → is_some (part_named ns name) ≡ true → Planted (Name name)
   name_planted name some = by (part_named ns name) (term_is h ns name) some
     where
-      by : (o : Option Part) → term_named env name ≡ option_map (tree_at h) o → is_some o ≡ true → Planted (Name name)
+      by : (o : Option Part) → term_named env name ≡ option_map (tree_of h) o → is_some o ≡ true → Planted (Name name)
       by None is some = absurd (true≢false (sym some))
-      by (Some q) is some = (tree_at h q, is)
+      by (Some q) is some = (tree_of h q, is)
 
   node_planted : (l : Label Text) (b : Option (List (Kind Text))) (ps : Phrases) → AllPlanted ps → is_node_word l.word ≡ true → list_all is_nameless_field l.fields ≡ true → is_nameless_bind b ≡ true → Planted (Labelled l b ps)
   node_planted l b ps kids node nameless bound =
@@ -222,7 +222,7 @@ module _ (h : Heap Part) (ns : List Named) where
       let none = no_group (row l.word).parts b (ap (λ w. not (has_for_group (row w).parts)) word) label.bind in (
         Var f.0 f.1 k.0,
         label_tree env l b ps (Number f.0 ∷ Number f.1 ∷ OfKind k.0 ∷ []) None End (Var f.0 f.1 k.0)
-            (ap (each_of (field_in env)) f.3 ∙ (λ i. cons_if (Some (Number f.0)) (cons_if (Some (Number f.1)) (cons_if (option_map OfKind (k.1 i)) (Some [])))))
+            (ap (each_of (field_meant env)) f.3 ∙ (λ i. cons_if (Some (Number f.0)) (cons_if (Some (Number f.1)) (cons_if (option_map OfKind (k.1 i)) (Some [])))))
             (ap (bind_in env) none)
             (ap (trees_of env) (no_kids ns l.word ps word kids))
             (ap (λ w. let m : Label SolverDefId = record { word = w; fields = Number f.0 ∷ Number f.1 ∷ OfKind k.0 ∷ [] } in tree_made m None End) word),

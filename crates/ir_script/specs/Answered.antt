@@ -4,7 +4,7 @@ use Rattle.ir_core.specs.declared.handles.Part.{Part}
 use Rattle.ir_laws.specs.Answer.{Answer, State, Writes, Meets, Allows, Fault, after_line, resolved, text_of_line}
 use Rattle.ir_laws.specs.Cause as cause
 use Rattle.ir_laws.specs.Causes.{causes_of}
-use Rattle.ir_laws.specs.Environment.{tree_of as tree_in}
+use Rattle.ir_laws.specs.Environment.{tree_in}
 use Rattle.ir_laws.specs.Form.{Form, Flags}
 use Rattle.ir_laws.specs.Heap.{Heap, tree_of}
 use Rattle.ir_laws.specs.Held.{HoldsJust}

@@ -36,7 +36,7 @@ AllSuit ns ps qs = ⊥
 -- The phrase has a tree where the names mean this, and the parts of the tree are made. On Ok the part is live, stands for the tree and suits the phrase
 pub record Builds (env : Environment) (ns : List Named) (old new : State) (p : Phrase) (r : Result Part TermError) : Type 0 where
   pub made : Term
-  pub tree : environment.tree_of env p ≡ Some made
+  pub tree : environment.tree_in env p ≡ Some made
   pub makes : Makes old new (parts made) r
   pub live : IfOk r (λ q. IsLive new.heap q)
   pub stands : IfOk r (λ q. tree_of new.heap q ≡ made)

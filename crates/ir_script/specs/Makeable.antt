@@ -10,7 +10,7 @@ use Rattle.ir_laws.specs.declared.labels.KidForm.{KidForm}
 use Rattle.ir_laws.specs.declared.labels.KidForm.TheVariants.{OneOf, TypeOrConstant, ListOf, ArgumentsOf}
 use Rattle.ir_laws.specs.Word.{same_word, label_words}
 use Rattle.ir_laws.specs.Same.{same_sort}
-use Rattle.ir_laws.specs.Label.{row}
+use Rattle.ir_laws.specs.Label.{row, Always, ByKind}
 use Rattle.ir_laws.specs.Counts.{sort_of_label}
 use Rattle.ir_laws.specs.Names.{field_forms}
 use Rattle.ir_laws.specs.Sorts.{is_sort_among, is_word_among}
@@ -43,6 +43,10 @@ is_nameless_bind (Some ks) = list_all is_nameless ks
 -- a label that is built, with its row's fields and with a group where its row has one, which have no names
 abbrev pub label_makeable : Label Text → Option (List (Kind Text)) → Bool
 label_makeable l b = is_word_among label_words l.word && fields_fit (field_forms (row l.word).parts) l.fields && bind_fits (row l.word).parts b && list_all is_nameless_field l.fields && is_nameless_bind b
+
+-- whether a label of this word is a list
+abbrev pub is_list : Word → Bool
+is_list w = elim ((row w).sort) [ Always s ↦ same_sort s OfList | ByKind ↦ false ]
 
 -- a label of the list's word, which keeps and binds nothing
 abbrev pub list_label : Word → Label Text → Option (List (Kind Text)) → Bool

@@ -9,7 +9,7 @@ use Rattle.ir_laws.specs.declared.labels.Sort.TheVariants.{OfType, OfRegion, OfC
 use Rattle.ir_laws.specs.Expression.{Expr}
 use Rattle.ir_laws.specs.Phrase.{Phrase, Phrases, Name, Labelled, NoPhrase, ThenPhrase, phrase_of, phrases_in, list_phrase}
 use Rattle.ir_laws.specs.declared.labels.FieldForm.{FieldForm}
-use Rattle.ir_laws.specs.declared.labels.FieldForm.TheVariants.{OneWordOf, ANumber, AVariableKind, ARegionKind}
+use Rattle.ir_laws.specs.declared.labels.FieldForm.TheVariants.{OneWordOf, ItemOf, AliasOfTrait, IdOf, ANumber, AVariableKind, ARegionKind, AMemory}
 use Rattle.ir_laws.specs.declared.labels.KidForm.{KidForm}
 use Rattle.ir_laws.specs.declared.labels.KidForm.TheVariants.{OneOf, TypeOrConstant, ListOf, ArgumentsOf}
 use Rattle.ir_laws.specs.declared.labels.Part.{Part}
@@ -97,7 +97,10 @@ is_built_field (OneWordOf choice) = true
 is_built_field ANumber = true
 is_built_field AVariableKind = true
 is_built_field ARegionKind = true
-is_built_field form = false
+is_built_field (ItemOf place) = false
+is_built_field AliasOfTrait = false
+is_built_field (IdOf place) = false
+is_built_field AMemory = false
 
 -- the parts that are read so far, where a group of variable kinds comes first
 abbrev pub is_built : Part → Bool
@@ -108,7 +111,10 @@ is_built (AKid form) = true
 
 abbrev pub are_built : List Part → Bool
 are_built (ForGroup ∷ parts) = list_all is_built parts
-are_built parts = list_all is_built parts
+are_built (Fixed word ∷ parts) = list_all is_built (Fixed word ∷ parts)
+are_built (AField form ∷ parts) = list_all is_built (AField form ∷ parts)
+are_built (AKid form ∷ parts) = list_all is_built (AKid form ∷ parts)
+are_built [] = true
 
 -- each label of the grammar has no other parts
 abbrev pub labels_are_built : Bool

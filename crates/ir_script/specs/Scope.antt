@@ -17,8 +17,8 @@ abbrev pub Named : Type 0
 Named = Text × Part
 
 -- the names in the order in which they were declared
-abbrev pub names_in : Scope → List Named
-names_in s = map (λ e. (e.0.items, e.1)) s.parts.entries
+abbrev pub scope_names : Scope → List Named
+scope_names s = map (λ e. (e.0.items, e.1)) s.parts.entries
 
 -- the part of the first such name
 abbrev pub part_named : List Named → Text → Option Part

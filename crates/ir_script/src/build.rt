@@ -1,6 +1,6 @@
 //! The making of terms: from phrases to parts of an interner.
 ghost use Rattle.ir_core.specs.declared.handles.Part.TheVariants as part;
-ghost use Rattle.ir_laws.specs.Environment.{field_in, kind_in};
+ghost use Rattle.ir_laws.specs.Environment.{field_meant, kind_in};
 ghost use Rattle.ir_laws.specs.Heap.{Each};
 ghost use Rattle.ir_laws.specs.Phrase.{Labelled, NoPhrase, each_of};
 ghost use Rattle.ir_laws.specs.declared.labels.Sort.TheVariants.{OfType};
@@ -8,6 +8,7 @@ ghost use Rattle.ir_script.specs.Built.{Binds, Builds, BuildsAll};
 ghost use Rattle.ir_script.specs.Causes.{no_names};
 ghost use Rattle.ir_script.specs.Makeable.{
   is_buildable,
+  is_list,
   is_nameless,
   is_nameless_bind,
   is_nameless_field,
@@ -19,11 +20,11 @@ ghost use Rattle.ir_script.specs.Phrases.{
   phrase_seen,
   phrases_seen,
 };
-ghost use Rattle.ir_script.specs.Scope.{AreTerms, env_of, names_in};
+ghost use Rattle.ir_script.specs.Scope.{AreTerms, env_of, scope_names};
 ghost use Rattle.ir_table.specs.Fits.{part_sort};
 ghost use Rattle.ir_table.specs.Interner.{heap, state};
-ghost use Rattle.ir_table.specs.Kinds as table;
-ghost use Rattle.ir_table.specs.Kinds.{variable_seen};
+ghost use Rattle.ir_table.specs.Nodes as table;
+ghost use Rattle.ir_table.specs.Nodes.{variable_seen};
 ghost use Rattle.std.specs.List.{list_all};
 ghost use Rattle.std.specs.Prelude.{◌≡◌, [], true, Some, Err, map as mapped, IfOk, OnErr};
 
@@ -32,8 +33,8 @@ use crate::scope::Scope;
 use ir_core::{
     BoundRegionKind, BoundTyKind, BoundVarKind, BoundVarKinds, Handle, Part, R, TermError, Ty, Tys,
 };
-use ir_laws::Word;
-use ir_table::{InternList, Interner, kind_of};
+use ir_laws::{Sort, Word};
+use ir_table::{InternList, Interner, Node};
 use std::alloc::Global;
 
 /// The types that these parts are.
@@ -98,7 +99,7 @@ fn binder_of(
 // The field as the interner has it.
 fn field_of(field: &Field) -> ir_table::Field
     requires { is_nameless_field (field_seen field.now) ≡ true }
-    ensures { field_in no_names (field_seen field.now) ≡ Some (table.field_seen result) }
+    ensures { field_meant no_names (field_seen field.now) ≡ Some (table.field_seen result) }
 {
     match field {
         Field::Chosen(word) => ir_table::Field::Chosen(*word),
@@ -110,7 +111,7 @@ fn field_of(field: &Field) -> ir_table::Field
 // The fields as the interner has them.
 fn fields_of(alloc: Global, fields: &[Field]) -> R<Vec<ir_table::Field>>
     requires { list_all is_nameless_field (mapped field_seen fields.now) ≡ true }
-    ensures fields { IfOk result (λ fs. each_of (field_in no_names) (mapped field_seen fields.now) ≡ Some (mapped table.field_seen fs.items)) }
+    ensures fields { IfOk result (λ fs. each_of (field_meant no_names) (mapped field_seen fields.now) ≡ Some (mapped table.field_seen fs.items)) }
     ensures err { OnErr result (result ≡ Err TermError.Memory) }
 {
     let mut seen = Vec::new(alloc);
@@ -120,38 +121,45 @@ fn fields_of(alloc: Global, fields: &[Field]) -> R<Vec<ir_table::Field>>
     Ok(seen)
 }
 
+// Whether a label of this word is a list.
+fn is_list(word: Word) -> bool
+    ensures { result ≡ is_list word }
+{
+    match word.sort() {
+        Some(sort) => sort == Sort::OfList,
+        None => false,
+    }
+}
+
 /// The part of the phrase's tree.
 #[cycle(build)]
 pub(crate) fn build(alloc: Global, cx: &mut Interner, scope: &Scope, phrase: &Phrase) -> R<Part>
-    requires buildable { is_buildable (names_in scope.now) (phrase_seen phrase.now) ≡ true }
-    requires terms { AreTerms (heap cx.old) (names_in scope.now) }
-    ensures { Builds (env_of (heap cx.old) (names_in scope.now)) (names_in scope.now) (state cx.old) (state cx.new) (phrase_seen phrase.now) result }
+    requires buildable { is_buildable (scope_names scope.now) (phrase_seen phrase.now) ≡ true }
+    requires terms { AreTerms (heap cx.old) (scope_names scope.now) }
+    ensures { Builds (env_of (heap cx.old) (scope_names scope.now)) (scope_names scope.now) (state cx.old) (state cx.new) (phrase_seen phrase.now) result }
 {
     let (word, fields, bind, kids) = match phrase {
         Phrase::Name(name) => return Ok(scope.find(name.as_bytes()).unwrap()),
         Phrase::Labelled(word, fields, bind, kids) => (word, fields, bind, kids),
     };
     let parts = build_all(alloc, cx, scope, kids)?;
-    match word {
-        Word::TypeList => {
-            let types = types_of(alloc, &parts)?;
-            let list = Tys::new_from_slice(cx, &types)?;
-            Ok(list.as_part())
-        }
-        _ => {
-            let seen = fields_of(alloc, fields)?;
-            let binder = binder_of(alloc, cx, bind)?;
-            cx.part_of(kind_of(*word, &seen, binder, &parts))
-        }
+    if is_list(*word) {
+        let types = types_of(alloc, &parts)?;
+        let list = Tys::new_from_slice(cx, &types)?;
+        Ok(list.as_part())
+    } else {
+        let seen = fields_of(alloc, fields)?;
+        let binder = binder_of(alloc, cx, bind)?;
+        cx.node(Node::new(*word, &seen, binder, &parts))
     }
 }
 
 /// The parts of the phrases' trees.
 #[cycle(build)]
 fn build_all(alloc: Global, cx: &mut Interner, scope: &Scope, kids: &[Phrase]) -> R<Vec<Part>>
-    requires buildable { list_all (λ p. is_buildable (names_in scope.now) (phrase_seen p)) kids.now ≡ true }
-    requires terms { AreTerms (heap cx.old) (names_in scope.now) }
-    ensures { BuildsAll (env_of (heap cx.old) (names_in scope.now)) (names_in scope.now) (state cx.old) (state cx.new) (phrases_seen kids.now) result }
+    requires buildable { list_all (λ p. is_buildable (scope_names scope.now) (phrase_seen p)) kids.now ≡ true }
+    requires terms { AreTerms (heap cx.old) (scope_names scope.now) }
+    ensures { BuildsAll (env_of (heap cx.old) (scope_names scope.now)) (scope_names scope.now) (state cx.old) (state cx.new) (phrases_seen kids.now) result }
 {
     let mut parts = Vec::new(alloc);
     for kid in kids {

@@ -58,7 +58,7 @@ fn begins(parts: &[Part], items: &[Expr]) -> bool
         (None, _) => false,
         (Some(Part::Fixed(word)), Some(Expr::Word(text))) => word.text() == text.as_bytes(),
         (Some(Part::Fixed(_)), _) => false,
-        (Some(_), _) => true,
+        (Some(Part::ForGroup | Part::AField(_) | Part::AKid(_)), _) => true,
     }
 }
 
@@ -98,7 +98,8 @@ fn field_in(alloc: Global, form: FieldForm, item: &Expr) -> R<Option<Field>>
         FieldForm::ANumber => Ok(number_of(text).map(Field::Number)),
         FieldForm::AVariableKind => Ok(kind_of(alloc, text)?.map(Field::OfKind)),
         FieldForm::ARegionKind => Ok(region_kind_of(alloc, text)?.map(Field::OfKind)),
-        _ => Ok(None),
+        FieldForm::ItemOf(_) | FieldForm::AliasOfTrait | FieldForm::IdOf(_) | FieldForm::AMemory =>
+            Ok(None),
     }
 }
 

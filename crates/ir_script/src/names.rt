@@ -7,7 +7,7 @@ ghost use Rattle.ir_laws.specs.Label.{row};
 ghost use Rattle.ir_laws.specs.declared.labels.FieldForm.{FieldForm};
 ghost use Rattle.ir_laws.specs.Names.{by_form, field_forms, if_so, unknown_bind, unknown_field, unknown_in, unknown_each, unknown_kind};
 ghost use Rattle.ir_script.specs.Phrases.{bind_seen, field_seen, kind_seen, phrase_seen, phrases_seen};
-ghost use Rattle.ir_script.specs.Scope.{env_of, names_in};
+ghost use Rattle.ir_script.specs.Scope.{env_of, scope_names};
 
 use crate::phrases::{Field, Phrase, VariableKind, placed};
 use crate::scope::Scope;
@@ -15,7 +15,7 @@ use ir_laws::Word;
 
 /// Whether the kind has a name that isn't declared.
 fn unknown_kind(scope: &Scope, kind: &VariableKind) -> bool
-    ensures { (h : Heap Part) → unknown_kind (env_of h (names_in scope.now)) None (kind_seen kind.now) ≡ if_so result Unknown }
+    ensures { (h : Heap Part) → unknown_kind (env_of h (scope_names scope.now)) None (kind_seen kind.now) ≡ if_so result Unknown }
 {
     match kind.name() {
         Some(name) => scope.find(name.as_bytes()).is_none(),
@@ -25,7 +25,7 @@ fn unknown_kind(scope: &Scope, kind: &VariableKind) -> bool
 
 /// Whether the field has such a name, whatever its place.
 fn unknown_field(scope: &Scope, field: &Field) -> bool
-    ensures { (h : Heap Part) (form : FieldForm) → unknown_field (env_of h (names_in scope.now)) None form (field_seen field.now) ≡ if_so result Unknown }
+    ensures { (h : Heap Part) (form : FieldForm) → unknown_field (env_of h (scope_names scope.now)) None form (field_seen field.now) ≡ if_so result Unknown }
 {
     match field {
         Field::Chosen(_) | Field::Number(_) => false,
@@ -35,8 +35,8 @@ fn unknown_field(scope: &Scope, field: &Field) -> bool
 
 /// Whether a field of the label has such a name.
 fn unknown_in_fields(scope: &Scope, word: Word, fields: &[Field]) -> bool
-    ensures unknown { (h : Heap Part) → result ≡ true → is_cause_among (by_form (unknown_field (env_of h (names_in scope.now)) None) (field_forms (row word).parts) (mapped field_seen fields.now)) Unknown ≡ true }
-    ensures known { (h : Heap Part) → result ≡ false → by_form (unknown_field (env_of h (names_in scope.now)) None) (field_forms (row word).parts) (mapped field_seen fields.now) ≡ [] }
+    ensures unknown { (h : Heap Part) → result ≡ true → is_cause_among (by_form (unknown_field (env_of h (scope_names scope.now)) None) (field_forms (row word).parts) (mapped field_seen fields.now)) Unknown ≡ true }
+    ensures known { (h : Heap Part) → result ≡ false → by_form (unknown_field (env_of h (scope_names scope.now)) None) (field_forms (row word).parts) (mapped field_seen fields.now) ≡ [] }
 {
     for field in placed(word, fields) {
         if unknown_field(scope, field) {
@@ -48,8 +48,8 @@ fn unknown_in_fields(scope: &Scope, word: Word, fields: &[Field]) -> bool
 
 /// Whether a kind that the label binds has such a name.
 fn unknown_in_bind(scope: &Scope, bind: &Option<Vec<VariableKind>>) -> bool
-    ensures unknown { (h : Heap Part) → result ≡ true → is_cause_among (unknown_bind (env_of h (names_in scope.now)) None (bind_seen bind.now)) Unknown ≡ true }
-    ensures known { (h : Heap Part) → result ≡ false → unknown_bind (env_of h (names_in scope.now)) None (bind_seen bind.now) ≡ [] }
+    ensures unknown { (h : Heap Part) → result ≡ true → is_cause_among (unknown_bind (env_of h (scope_names scope.now)) None (bind_seen bind.now)) Unknown ≡ true }
+    ensures known { (h : Heap Part) → result ≡ false → unknown_bind (env_of h (scope_names scope.now)) None (bind_seen bind.now) ≡ [] }
 {
     let Some(kinds) = bind else {
         return false;
@@ -65,8 +65,8 @@ fn unknown_in_bind(scope: &Scope, bind: &Option<Vec<VariableKind>>) -> bool
 /// Whether a name stands in the phrase that isn't declared.
 #[cycle(names)]
 pub(crate) fn unknown_name(scope: &Scope, phrase: &Phrase) -> bool
-    ensures unknown { (h : Heap Part) → result ≡ true → is_cause_among (unknown_in (env_of h (names_in scope.now)) None (phrase_seen phrase.now)) Unknown ≡ true }
-    ensures known { (h : Heap Part) → result ≡ false → unknown_in (env_of h (names_in scope.now)) None (phrase_seen phrase.now) ≡ [] }
+    ensures unknown { (h : Heap Part) → result ≡ true → is_cause_among (unknown_in (env_of h (scope_names scope.now)) None (phrase_seen phrase.now)) Unknown ≡ true }
+    ensures known { (h : Heap Part) → result ≡ false → unknown_in (env_of h (scope_names scope.now)) None (phrase_seen phrase.now) ≡ [] }
 {
     match phrase {
         Phrase::Name(name) => scope.find(name.as_bytes()).is_none(),
@@ -81,8 +81,8 @@ pub(crate) fn unknown_name(scope: &Scope, phrase: &Phrase) -> bool
 /// Whether a name stands in one of the phrases that isn't declared.
 #[cycle(names)]
 fn unknown_among(scope: &Scope, phrases: &[Phrase]) -> bool
-    ensures unknown { (h : Heap Part) → result ≡ true → is_cause_among (unknown_each (env_of h (names_in scope.now)) None (phrases_seen phrases.now)) Unknown ≡ true }
-    ensures known { (h : Heap Part) → result ≡ false → unknown_each (env_of h (names_in scope.now)) None (phrases_seen phrases.now) ≡ [] }
+    ensures unknown { (h : Heap Part) → result ≡ true → is_cause_among (unknown_each (env_of h (scope_names scope.now)) None (phrases_seen phrases.now)) Unknown ≡ true }
+    ensures known { (h : Heap Part) → result ≡ false → unknown_each (env_of h (scope_names scope.now)) None (phrases_seen phrases.now) ≡ [] }
 {
     for phrase in phrases {
         if unknown_name(scope, phrase) {

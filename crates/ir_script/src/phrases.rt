@@ -76,8 +76,9 @@ fn field_count(parts: &[Part]) -> usize
 {
     let mut count = 0;
     for part in parts {
-        if let Part::AField(_) = part {
-            count += 1;
+        match part {
+            Part::AField(_) => count += 1,
+            Part::Fixed(_) | Part::ForGroup | Part::AKid(_) => {}
         }
     }
     count

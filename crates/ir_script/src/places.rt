@@ -11,7 +11,7 @@ ghost use Rattle.ir_script.specs.Causes.{no_names, Finds};
 ghost use Rattle.ir_script.specs.Phrases.{bind_seen, field_seen, label_seen, phrase_seen, phrases_seen};
 ghost use Rattle.ir_core.specs.declared.handles.Part.{Part as PartSeen};
 ghost use Rattle.ir_laws.specs.Heap.{Heap};
-ghost use Rattle.ir_script.specs.Scope.{AreTerms, env_of, named_only, names_in};
+ghost use Rattle.ir_script.specs.Scope.{AreTerms, env_of, named_only, scope_names};
 ghost use Rattle.ir_script.specs.Wanted.{wanted_seen, bare};
 
 use crate::causes::Cause;
@@ -74,10 +74,16 @@ impl Wanted {
     fn length_misfit(self, count: usize) -> Option<Cause>
         ensures { Finds result (length_misfits (wanted_seen self) count) }
     {
-        match self {
-            Wanted::Members(_, IfEmpty::ArityIfEmpty) if count == 0 => Some(Cause::Arity),
-            Wanted::Members(_, IfEmpty::EmptyOrIfEmpty) if count == 0 => Some(Cause::EmptyOr),
-            _ => None,
+        let Wanted::Members(_, if_empty) = self else {
+            return None;
+        };
+        if count != 0 {
+            return None;
+        }
+        match if_empty {
+            IfEmpty::Fine => None,
+            IfEmpty::ArityIfEmpty => Some(Cause::Arity),
+            IfEmpty::EmptyOrIfEmpty => Some(Cause::EmptyOr),
         }
     }
 
@@ -87,7 +93,9 @@ impl Wanted {
     {
         match self {
             Wanted::Members(_, _) | Wanted::Arguments => &[],
-            _ => word.parts(),
+            Wanted::Operand | Wanted::One(_) | Wanted::TypeOrConstant | Wanted::Argument => {
+                word.parts()
+            }
         }
     }
 
@@ -97,7 +105,11 @@ impl Wanted {
     {
         match self {
             Wanted::Members(sort, _) => Wanted::One(sort),
-            _ => Wanted::Argument,
+            Wanted::Operand
+            | Wanted::One(_)
+            | Wanted::TypeOrConstant
+            | Wanted::Argument
+            | Wanted::Arguments => Wanted::Argument,
         }
     }
 }
@@ -145,7 +157,7 @@ fn next_kid(parts: &[Part], further: Wanted) -> (Wanted, &[Part])
 
 /// The sort of the phrase; none for a name that stands for no term.
 fn sort_of_phrase(scope: &Scope, phrase: &Phrase) -> Option<Sort>
-    ensures { (h : Heap PartSeen) → AreTerms h (names_in scope.now) → result ≡ sort_in (env_of h (names_in scope.now)) (phrase_seen phrase.now) }
+    ensures { (h : Heap PartSeen) → AreTerms h (scope_names scope.now) → result ≡ sort_in (env_of h (scope_names scope.now)) (phrase_seen phrase.now) }
 {
     match phrase {
         Phrase::Name(name) => scope.sort_of(name.as_bytes()),
@@ -155,7 +167,7 @@ fn sort_of_phrase(scope: &Scope, phrase: &Phrase) -> Option<Sort>
 
 /// Whether both phrases have a sort, and it is one.
 pub(crate) fn have_one_sort(scope: &Scope, first: &Phrase, second: &Phrase) -> bool
-    ensures { (h : Heap PartSeen) → AreTerms h (names_in scope.now) → result ≡ are_of_one_sort (sort_in (env_of h (names_in scope.now)) (phrase_seen first.now)) (sort_in (env_of h (names_in scope.now)) (phrase_seen second.now)) }
+    ensures { (h : Heap PartSeen) → AreTerms h (scope_names scope.now) → result ≡ are_of_one_sort (sort_in (env_of h (scope_names scope.now)) (phrase_seen first.now)) (sort_in (env_of h (scope_names scope.now)) (phrase_seen second.now)) }
 {
     match (sort_of_phrase(scope, first), sort_of_phrase(scope, second)) {
         (Some(one), Some(other)) => one == other,
@@ -204,7 +216,7 @@ fn has_named_variable(bind: &Option<Vec<VariableKind>>) -> bool
 
 /// A fault of the phrase as an operand.
 pub(crate) fn misfit(scope: &Scope, phrase: &Phrase) -> Option<Cause>
-    ensures { (h : Heap PartSeen) → AreTerms h (names_in scope.now) → Finds result (misfits (env_of h (names_in scope.now)) operand (phrase_seen phrase.now)) }
+    ensures { (h : Heap PartSeen) → AreTerms h (scope_names scope.now) → Finds result (misfits (env_of h (scope_names scope.now)) operand (phrase_seen phrase.now)) }
 {
     misfit_in(scope, Wanted::Operand, phrase)
 }
@@ -212,7 +224,7 @@ pub(crate) fn misfit(scope: &Scope, phrase: &Phrase) -> Option<Cause>
 /// A fault of the phrase in a place that wants this.
 #[cycle(places)]
 fn misfit_in(scope: &Scope, wanted: Wanted, phrase: &Phrase) -> Option<Cause>
-    ensures { (h : Heap PartSeen) → AreTerms h (names_in scope.now) → Finds result (misfits (env_of h (names_in scope.now)) (wanted_seen wanted) (phrase_seen phrase.now)) }
+    ensures { (h : Heap PartSeen) → AreTerms h (scope_names scope.now) → Finds result (misfits (env_of h (scope_names scope.now)) (wanted_seen wanted) (phrase_seen phrase.now)) }
 {
     match phrase {
         Phrase::Name(name) => {
@@ -243,7 +255,7 @@ fn misfit_in(scope: &Scope, wanted: Wanted, phrase: &Phrase) -> Option<Cause>
 /// A fault of the kids, the first of which are wanted by the parts.
 #[cycle(places)]
 fn misfit_among(scope: &Scope, kids: &[Phrase], parts: &[Part], further: Wanted) -> Option<Cause>
-    ensures { (h : Heap PartSeen) → AreTerms h (names_in scope.now) → Finds result (each_misfits (env_of h (names_in scope.now)) (kids_wanted no_names [] parts.now) (wanted_seen further) (phrases_seen kids.now)) }
+    ensures { (h : Heap PartSeen) → AreTerms h (scope_names scope.now) → Finds result (each_misfits (env_of h (scope_names scope.now)) (kids_wanted no_names [] parts.now) (wanted_seen further) (phrases_seen kids.now)) }
 {
     let mut rest = parts;
     for kid in kids {

@@ -9,13 +9,13 @@ use Rattle.ir_laws.specs.Heap.{forest, Heap, HasNode, shape_over, tree_of}
 use Rattle.ir_laws.proofs.PlantLemmas.{plant-kids}
 use Rattle.ir_table.specs.declared.Interner.{Interner}
 use Rattle.ir_table.specs.Interner.{HasTypes, heap}
-use Rattle.ir_table.specs.Kinds.{tys_layer}
+use Rattle.ir_table.specs.Nodes.{tys_kids, tys_layer}
 
 -- a node with kids has none without
 some_items : (h : Heap Part) (p : Part) (xs ys : List Ty) → HasNode h p (tys_layer xs) → HasNode h p (tys_layer ys) → 0 < length xs → 0 < length ys
 some_items h p xs (y ∷ ys) a b some = omega arith
 some_items h p [] [] a b some = some
-some_items h p (x ∷ xs) [] a b some = absurd (let e = plant-kids (shape_over h (tys_layer (x ∷ xs))) (shape_over h (tys_layer [])) (forest (tree_of h) (tys_layer (x ∷ xs)).kids) (forest (tree_of h) []) (sym a.tree ∙ b.tree) in cc)
+some_items h p (x ∷ xs) [] a b some = absurd (let e = plant-kids (shape_over h (tys_layer (x ∷ xs))) (shape_over h (tys_layer [])) (forest (tree_of h) (tys_kids (x ∷ xs))) (forest (tree_of h) []) (sym a.tree ∙ b.tree) in cc)
 
 front_and_last : {X : Type 0} (xs : List X) (n : ℕ) (d : X) → n + 1 ≡ length xs → xs ≡ take n xs ++ get_or xs n d ∷ []
 front_and_last xs n d e = sym (take_all (n + 1) xs (omega arith)) ∙ take_more xs n d (omega arith)

@@ -1,36 +1,7 @@
 -- What a value beside a list's items says.
-use Rattle.std.proofs.Common.{◌≡◌, ℕ, ◌+◌, ◌<◌, max, min, arith, List, ◌∷◌, length, drop, get_or, Option, None, Some, IsSome, refl, ap, sym, subst, map, ◌∙◌}
+use Rattle.std.proofs.Common.{◌≡◌, ℕ, ◌+◌, ◌<◌, max, min, arith, List, ◌∷◌, length, drop, get_or, ap, sym, subst, map, ◌∙◌}
 use Rattle.std.proofs.lemmas.List.{drop_more, length-map, get_or-map}
-use Rattle.ir_laws.specs.Heap.{Layer, Sketch, Each, largest, total, size_cap}
-use Rattle.std.specs.Option.{option_map}
-use Rattle.std.proofs.lemmas.Option.{same_Some}
-use Rattle.ir_core.specs.declared.handles.Part.{Part}
-use Rattle.ir_table.specs.declared.store.EmptyList.{EmptyList}
-use Rattle.ir_table.specs.declared.parts.Kept.{Kept}
-use Rattle.ir_table.specs.Kinds.{empty_at, empty_layer, sketch, sketch_of}
-use Rattle.ir_table.specs.Above.{KeptAt}
-use Rattle.ir_table.proofs.PartLemmas.{empty_pair}
-
--- what is kept of a part is what the pair has
-kept_itself : (l : Layer Part) (c : Kept) → KeptAt (Some (sketch l c)) c
-kept_itself l c = record { height = refl; size = refl; flags = refl; outer = refl }
-
-pub pair_cached : {K : Type 0} (layer : K → Layer Part) (o : Option (K × Kept)) (c : Kept) → option_map (λ e. e.1) o ≡ Some c → KeptAt (option_map (sketch_of layer) o) c
-pair_cached layer None c e = absurd cc
-pair_cached layer (Some x) c e = subst (λ d. KeptAt (Some (sketch_of layer x)) d) (same_Some x.1 c e) (kept_itself (layer x.0) x.1)
-
-pub value_of_pair : {K : Type 0} (o : Option (K × Kept)) (e : K × Kept) → o ≡ Some e → option_map (λ x. x.1) o ≡ Some e.1
-value_of_pair o e is = ap (option_map (λ x. x.1)) is
-
-pub empty_cached : (k : EmptyList) (o : Option (EmptyList × Kept)) (c : Kept) → IsSome (empty_at k o) → option_map (λ e. e.1) o ≡ Some c → KeptAt (empty_at k o) c
-empty_cached k o c live e = by (empty_at k o) refl live
-  where
-    by : (s : Option (Sketch Part)) → empty_at k o ≡ s → IsSome s → KeptAt (empty_at k o) c
-    by None is l = absurd cc
-    by (Some s) is l =
-        let p = empty_pair k o s is in
-        let same : p.0 ≡ c = same_Some p.0 c (sym (ap (option_map (λ (x : EmptyList × Kept). x.1)) p.1) ∙ e) in
-        subst (λ t. KeptAt t c) (sym (is ∙ ap Some (sym p.2))) (subst (λ d. KeptAt (Some (sketch_of empty_layer (k, p.0))) d) same (kept_itself (empty_layer k) p.0))
+use Rattle.ir_laws.specs.Heap.{Each, largest, total, size_cap}
 
 -- one step over names, by what is left of them
 module _ {P : Type 0} (xs : List P) (i : ℕ) (d : P) (within : i < length xs) where

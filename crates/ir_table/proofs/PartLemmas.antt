@@ -1,505 +1,349 @@
--- What the tables' heap says of each sort.
-use Rattle.std.proofs.Common.{◌≡◌, ◌<◌, ℕ, zero, suc, Bool, true, false, is_some, true≢false, if◌then◌else◌, nat_eq, arith, List, [], ◌∷◌, ◌++◌, length, slice_get, map, nat_lt, IsTrue, ◌↔◌, Option, None, Some, Result, Ok, Err, ◌⊎◌, inl, inr, refl, sym, ap, subst, ◌∙◌}
-use Rattle.std.proofs.lemmas.Bool.Decides.{nat_tests}
+-- What the tables' heap says of each part.
+use Rattle.std.proofs.Common.{◌≡◌, ◌<◌, ◌↔◌, ℕ, zero, suc, Bool, true, false, ◌&&◌, ◌||◌, not, is_some, true≢false, if◌then◌else◌, arith, List, [], ◌∷◌, ◌++◌, length, slice_get, map, IsTrue, IsSome, Option, None, Some, ◌⊎◌, inl, inr, ⊎_elim, refl, sym, ap, ap₂, subst, ◌∙◌}
+use Rattle.std.proofs.lemmas.Bool.{and_from, and_parts}
 use Rattle.std.proofs.lemmas.Option.{none-some, same_Some}
-use Rattle.std.specs.Option.{option_map, option_map_or}
-use Rattle.std.specs.Result.{OnOk, OnErr}
-use Rattle.ir_core.specs.declared.handles.BoundVarKinds.{BoundVarKinds}
-use Rattle.ir_core.specs.declared.handles.Const.{Const}
-use Rattle.ir_core.specs.declared.handles.Region.{Region}
-use Rattle.ir_core.specs.declared.handles.Ty.{Ty}
-use Rattle.ir_core.specs.declared.handles.VariancesOf.{VariancesOf}
-use Rattle.ir_core.specs.declared.handles.Tys.{Tys}
+use denote.Enum.Bare.{same_true, true_same}
 use Rattle.ir_core.specs.declared.handles.Part.{Part}
 use Rattle.ir_core.specs.declared.handles.Part.TheVariants as part
-use Rattle.ir_core.specs.declared.kinds.TyKind.{TyKind}
-use Rattle.ir_core.specs.declared.kinds.ConstKind.{ConstKind}
-use Rattle.ir_core.specs.declared.kinds.RegionKind.{RegionKind}
-use Rattle.ir_core.specs.declared.kinds.Variance.{Variance}
-use Rattle.ir_core.specs.declared.kinds.Variance.TheVariants as variance
-use Rattle.ir_core.specs.declared.variables.BoundVarKind.{BoundVarKind}
-use Rattle.ir_laws.specs.declared.words.Word.{Word}
-use Rattle.ir_laws.specs.declared.words.Word.TheVariants.{TypeList, ArgumentList, PatternList, ExistentialList, ClauseList, VariableList, VarianceList, AssumptionList}
-use Rattle.ir_laws.specs.declared.labels.Sort.{Sort as LabelSort}
-use Rattle.ir_laws.specs.declared.labels.Sort.TheVariants.{OfType, OfRegion, OfConstant}
-use Rattle.ir_laws.specs.Counts.{sort_of_label}
-use Rattle.ir_laws.specs.Heap.{Layer, Sketch, Heap, Each, IsLive, IsSound, Adds, names_in, with_binder, is_binder, is_variable_list, are_kinds, tree_of}
-use Rattle.ir_laws.specs.declared.labels.Keyword.TheVariants.{Covariant, Contravariant, Bivariant}
-use Rattle.ir_core.specs.declared.ids.SolverDefId.{SolverDefId}
-use Rattle.ir_laws.specs.Tree.{Field, Chosen}
-use Rattle.ir_laws.proofs.Telling.{by_number}
-use Rattle.ir_table.specs.declared.parts.Kept.{Kept}
-use Rattle.ir_table.specs.declared.store.EmptyList.{EmptyList}
-use Rattle.ir_table.specs.declared.store.EmptyList.TheVariants as empty
+use Rattle.ir_core.specs.declared.limit.Limits.{Limits as GivenLimits}
+use Rattle.ir_laws.specs.Heap.{Heap, Kids, OfNames, Inlined, Layer, Sketch, Each, IsLive, IsKids, IsNode, IsSound, HasNode, are_names, names_in, has_none, is_binder, is_shape_counted, kid_names, leaf_of, shape_over, with_binder}
+use Rattle.ir_laws.proofs.HeapLemmas.{has_node, kids_of_names, node_of, is_binder_at}
+use Rattle.ir_core.specs.declared.handles.PartSort.{PartSort}
+use Rattle.ir_core.specs.declared.handles.PartSort.TheVariants as sort
+use Rattle.ir_core.specs.contracts.handles.PartSort.{the_type}
 use Rattle.ir_table.specs.declared.store.Tables.{Tables}
-use Rattle.ir_table.specs.State.{State, fits}
-use Rattle.ir_table.specs.Table.{HasNoKey}
-use Rattle.ir_table.specs.Kinds.{layer, ty_binder, ty_layer, ty_of, const_layer, const_of, region_layer, region_of, tys_layer, variable_seen, variable_field, variables_layer, variance_field, variances_layer, empty_layer, empty_number, empty_part, empty_at, sketch_of, heap_of}
-use Rattle.ir_table.proofs.KindLemmas.{ty_sort, const_sort, region_sort, ty_of-parts, const_of-parts, region_of-parts, ty_binds, variable_in, variable_back}
+use Rattle.ir_laws.specs.declared.words.Word.TheVariants.{TypeList, ArgumentList, PatternList, ExistentialList, ClauseList, VariableList, VarianceList, AssumptionList}
+use Rattle.ir_laws.specs.declared.words.Word.{Word}
+use Rattle.ir_laws.specs.declared.labels.Sort.{Sort}
+use Rattle.ir_laws.specs.declared.labels.Sort.TheVariants.{OfExistential, OfList}
+use Rattle.ir_laws.specs.Counts.{sort_of_label}
+use Rattle.ir_laws.specs.Same.{same_sort}
+use Rattle.ir_laws.specs.Tree.{Term}
+use Rattle.ir_laws.specs.Label.{row}
+use Rattle.ir_laws.specs.Formed.{has_no_fields}
+use Rattle.ir_laws.specs.Parts.{has_for_group, is_bound, is_counted}
+use Rattle.ir_table.specs.Fits.{binder_fits, fits_row, fits_sort, is_empty_list, is_of, is_term, layer_fits, layer_sort, list_sort, sort_by, term_sort}
+use Rattle.ir_table.specs.Heaps.{heap_of, only, table_of}
+use Rattle.ir_core.specs.Parts.{part_at, index_in, same_part_sort, sort_in}
+use Rattle.ir_table.specs.declared.nodes.CachedInfo.{CachedInfo}
+use Rattle.std.specs.Option.{option_map, option_map_or}
+use Rattle.ir_core.specs.declared.handles.BoundVarKinds.{BoundVarKinds}
+use Rattle.ir_core.specs.declared.variables.BoundVarKind.{BoundVarKind}
+use Rattle.ir_laws.specs.Heap.{kinds_among, kinds_at}
+use Rattle.ir_table.proofs.NodeLemmas.{kinds_of_fields}
+use Rattle.ir_table.specs.Nodes.{sketch, variable_seen, variables_layer}
+use Rattle.ir_table.specs.Owned.{owns_nodes}
+use Rattle.ir_table.specs.Tabled.{IsTable, is_owned}
+use Rattle.ir_table.specs.Interner.{state_of}
 use Rattle.ir_table.proofs.TableLemmas.{slice_get_push, slice_get_push_other, slice_get_end}
+use Rattle.ir_table.proofs.HandleLemmas.{fits_term, term_is}
+use Rattle.ir_table.proofs.SortLemmas.{AllFit, IsSort}
 
--- ---- tables with another table of one sort
+-- ---- sorts and places
 
-abbrev pub with_tys : Tables → List (TyKind × Kept) → Tables
-with_tys t es = record { tys = es; consts = t.consts; regions = t.regions; type_lists = t.type_lists; variable_lists = t.variable_lists; variance_lists = t.variance_lists; empty_lists = t.empty_lists }
+pub part_back : (q : Part) → q ≡ part_at (sort_in q) (index_in q)
+part_back (part.Tys h) = refl
+part_back _ = refl
 
-abbrev pub with_consts : Tables → List (ConstKind × Kept) → Tables
-with_consts t es = record { tys = t.tys; consts = es; regions = t.regions; type_lists = t.type_lists; variable_lists = t.variable_lists; variance_lists = t.variance_lists; empty_lists = t.empty_lists }
-
-abbrev pub with_regions : Tables → List (RegionKind × Kept) → Tables
-with_regions t es = record { tys = t.tys; consts = t.consts; regions = es; type_lists = t.type_lists; variable_lists = t.variable_lists; variance_lists = t.variance_lists; empty_lists = t.empty_lists }
-
-abbrev pub with_type_lists : Tables → List (List Ty × Kept) → Tables
-with_type_lists t es = record { tys = t.tys; consts = t.consts; regions = t.regions; type_lists = es; variable_lists = t.variable_lists; variance_lists = t.variance_lists; empty_lists = t.empty_lists }
-
-abbrev pub with_variable_lists : Tables → List (List BoundVarKind × Kept) → Tables
-with_variable_lists t es = record { tys = t.tys; consts = t.consts; regions = t.regions; type_lists = t.type_lists; variable_lists = es; variance_lists = t.variance_lists; empty_lists = t.empty_lists }
-
-abbrev pub with_variance_lists : Tables → List (List Variance × Kept) → Tables
-with_variance_lists t es = record { tys = t.tys; consts = t.consts; regions = t.regions; type_lists = t.type_lists; variable_lists = t.variable_lists; variance_lists = es; empty_lists = t.empty_lists }
-
-abbrev pub with_empty_lists : Tables → List (EmptyList × Kept) → Tables
-with_empty_lists t es = record { tys = t.tys; consts = t.consts; regions = t.regions; type_lists = t.type_lists; variable_lists = t.variable_lists; variance_lists = t.variance_lists; empty_lists = es }
-
--- ---- pairs behind nodes
-
-pair_of : {K : Type 0} (f : K × Kept → Sketch Part) (o : Option (K × Kept)) (s : Sketch Part) → option_map f o ≡ Some s → (e : K × Kept) × (o ≡ Some e) × (f e ≡ s)
-pair_of f None s e = absurd cc
-pair_of f (Some x) s e = (x, refl, cc)
-
-empty_same : (k l : EmptyList) → nat_eq (empty_number k) (empty_number l) ≡ true → k ≡ l
-empty_same k l e = (by_number empty_number (empty.GenericArgs ∷ empty.PatList ∷ empty.BoundExistentialPredicates ∷ empty.Clauses ∷ empty.RegionAssumptions ∷ []) back k l).0 e
-  where
-    back : (k : EmptyList) → slice_get (empty.GenericArgs ∷ empty.PatList ∷ empty.BoundExistentialPredicates ∷ empty.Clauses ∷ empty.RegionAssumptions ∷ []) (empty_number k) ≡ Some k
-    back empty.GenericArgs = refl
-    back empty.PatList = refl
-    back empty.BoundExistentialPredicates = refl
-    back empty.Clauses = refl
-    back empty.RegionAssumptions = refl
-
--- the empty list of a sort is a pair of it
-pub empty_pair : (k : EmptyList) (o : Option (EmptyList × Kept)) (s : Sketch Part) → empty_at k o ≡ Some s → (c : Kept) × (o ≡ Some (k, c)) × (sketch_of empty_layer (k, c) ≡ s)
-empty_pair k None s e = absurd cc
-empty_pair k (Some x) s e = by (nat_eq (empty_number x.0) (empty_number k)) refl
-  where
-    by : (b : Bool) → nat_eq (empty_number x.0) (empty_number k) ≡ b → (c : Kept) × (Some x ≡ Some (k, c)) × (sketch_of empty_layer (k, c) ≡ s)
-    by true same =
-        let key = empty_same x.0 k same in
-        let here : Some (sketch_of empty_layer x) ≡ Some s = sym (ap (λ b. if b then Some (sketch_of empty_layer x) else None) same) ∙ e in
-        (x.1, ap (λ l. Some (l, x.1)) key, ap (λ l. sketch_of empty_layer (l, x.1)) (sym key) ∙ same_Some _ _ here)
-    by false other = let bad : None ≡ Some s = sym (ap (λ b. if b then Some (sketch_of empty_layer x) else None) other) ∙ e in absurd (none-some s bad)
-
-empty_here : (k : EmptyList) (c : Kept) → empty_at k (Some (k, c)) ≡ Some (sketch_of empty_layer (k, c))
-empty_here empty.GenericArgs c = refl
-empty_here empty.PatList c = refl
-empty_here empty.BoundExistentialPredicates c = refl
-empty_here empty.Clauses c = refl
-empty_here empty.RegionAssumptions c = refl
-
--- ---- the sort of a part, and that of a word
-
-data Sort : Type 0 where
-  ty : Sort
-  constant : Sort
-  region : Sort
-  tys_list : Sort
-  variables_list : Sort
-  variances_list : Sort
-  empty_list : EmptyList → Sort
-
-abbrev sort_of : Part → Sort
-sort_of (part.Ty h) = ty
-sort_of (part.Const h) = constant
-sort_of (part.Region h) = region
-sort_of (part.Tys h) = tys_list
-sort_of (part.BoundVarKinds h) = variables_list
-sort_of (part.VariancesOf h) = variances_list
-sort_of (part.GenericArgs h) = empty_list empty.GenericArgs
-sort_of (part.PatList h) = empty_list empty.PatList
-sort_of (part.BoundExistentialPredicates h) = empty_list empty.BoundExistentialPredicates
-sort_of (part.Clauses h) = empty_list empty.Clauses
-sort_of (part.RegionAssumptions h) = empty_list empty.RegionAssumptions
-
--- lists are told by their word, terms by their sort
-abbrev list_sort : Word → Sort
-list_sort TypeList = tys_list
-list_sort VariableList = variables_list
-list_sort VarianceList = variances_list
-list_sort ArgumentList = empty_list empty.GenericArgs
-list_sort PatternList = empty_list empty.PatList
-list_sort ExistentialList = empty_list empty.BoundExistentialPredicates
-list_sort ClauseList = empty_list empty.Clauses
-list_sort AssumptionList = empty_list empty.RegionAssumptions
-list_sort _ = tys_list
-
-abbrev label_sort : LabelSort → Word → Sort
-label_sort OfType w = ty
-label_sort OfConstant w = constant
-label_sort OfRegion w = region
-label_sort _ w = list_sort w
-
-abbrev layer_sort : Layer Part → Sort
-layer_sort l = label_sort (sort_of_label l.label) l.label.word
-
-empty_word_sort : (k : EmptyList) → layer_sort (empty_layer k) ≡ empty_list k
-empty_word_sort empty.GenericArgs = refl
-empty_word_sort empty.PatList = refl
-empty_word_sort empty.BoundExistentialPredicates = refl
-empty_word_sort empty.Clauses = refl
-empty_word_sort empty.RegionAssumptions = refl
-
-empty_part_sort : (k : EmptyList) (i : ℕ) → layer_sort (empty_layer k) ≡ sort_of (empty_part k i)
-empty_part_sort empty.GenericArgs i = refl
-empty_part_sort empty.PatList i = refl
-empty_part_sort empty.BoundExistentialPredicates i = refl
-empty_part_sort empty.Clauses i = refl
-empty_part_sort empty.RegionAssumptions i = refl
-
-ty_layer_sort : (k : TyKind) → layer_sort (ty_layer k) ≡ ty
-ty_layer_sort k = ap (λ s. label_sort s (ty_layer k).label.word) (ty_sort k)
-
-const_layer_sort : (k : ConstKind) → layer_sort (const_layer k) ≡ constant
-const_layer_sort k = ap (λ s. label_sort s (const_layer k).label.word) (const_sort k)
-
-region_layer_sort : (k : RegionKind) → layer_sort (region_layer k) ≡ region
-region_layer_sort k = ap (λ s. label_sort s (region_layer k).label.word) (region_sort k)
-
--- what holds of each layer of a part's sort holds of the part's
-module _ (t : Tables) (A : Part → Layer Part → Type 0)
-    (ty : (h : Ty) (k : TyKind) → A (part.Ty h) (ty_layer k)) (constant : (h : Const) (k : ConstKind) → A (part.Const h) (const_layer k)) (region : (h : Region) (k : RegionKind) → A (part.Region h) (region_layer k))
-    (tys : (h : Tys) (ts : List Ty) → A (part.Tys h) (tys_layer ts)) (variables : (h : BoundVarKinds) (vs : List BoundVarKind) → A (part.BoundVarKinds h) (variables_layer vs))
-    (variances : (h : VariancesOf) (vs : List Variance) → A (part.VariancesOf h) (variances_layer vs)) (none : (k : EmptyList) (i : ℕ) → A (empty_part k i) (empty_layer k)) where
-  by_key : {K : Type 0} (q : Part) (layer : K → Layer Part) (o : Option (K × Kept)) (s : Sketch Part) → ((k : K) → A q (layer k)) → option_map (sketch_of layer) o ≡ Some s → A q s.layer
-  by_key q layer o s all e = let p = pair_of (sketch_of layer) o s e in subst (λ (u : Sketch Part). A q u.layer) p.2 (all p.0.0)
-
-  by_empty : (k : EmptyList) (i : ℕ) (o : Option (EmptyList × Kept)) (s : Sketch Part) → empty_at k o ≡ Some s → A (empty_part k i) s.layer
-  by_empty k i o s e = let p = empty_pair k o s e in subst (λ (u : Sketch Part). A (empty_part k i) u.layer) p.2 (none k i)
-
-  pub by_sort : (q : Part) (s : Sketch Part) → heap_of t q ≡ Some s → A q s.layer
-  unfolding heap_of
-  by_sort (part.Ty h) s e = by_key (part.Ty h) ty_layer (slice_get t.tys h.index) s (ty h) e
-  by_sort (part.Const h) s e = by_key (part.Const h) const_layer (slice_get t.consts h.index) s (constant h) e
-  by_sort (part.Region h) s e = by_key (part.Region h) region_layer (slice_get t.regions h.index) s (region h) e
-  by_sort (part.Tys h) s e = by_key (part.Tys h) tys_layer (slice_get t.type_lists h.index) s (tys h) e
-  by_sort (part.BoundVarKinds h) s e = by_key (part.BoundVarKinds h) variables_layer (slice_get t.variable_lists h.index) s (variables h) e
-  by_sort (part.VariancesOf h) s e = by_key (part.VariancesOf h) variances_layer (slice_get t.variance_lists h.index) s (variances h) e
-  by_sort (part.GenericArgs h) s e = by_empty empty.GenericArgs h.index (slice_get t.empty_lists h.index) s e
-  by_sort (part.PatList h) s e = by_empty empty.PatList h.index (slice_get t.empty_lists h.index) s e
-  by_sort (part.BoundExistentialPredicates h) s e = by_empty empty.BoundExistentialPredicates h.index (slice_get t.empty_lists h.index) s e
-  by_sort (part.Clauses h) s e = by_empty empty.Clauses h.index (slice_get t.empty_lists h.index) s e
-  by_sort (part.RegionAssumptions h) s e = by_empty empty.RegionAssumptions h.index (slice_get t.empty_lists h.index) s e
-
-module _ (t : Tables) where
-  -- a part's layer is of its sort
-  sorted : (q : Part) (s : Sketch Part) → heap_of t q ≡ Some s → layer_sort s.layer ≡ sort_of q
-  sorted = by_sort t (λ q l. layer_sort l ≡ sort_of q) (λ h. ty_layer_sort) (λ h. const_layer_sort) (λ h. region_layer_sort) (λ h ts. refl) (λ h vs. refl) (λ h vs. refl)
-      empty_part_sort
-
-  -- types and lists of types alone have kids
-  pub no_kids : (q : Part) (s : Sketch Part) → heap_of t q ≡ Some s → ((h : Ty) → q ≡ part.Ty h → ⊥) → ((h : Tys) → q ≡ part.Tys h → ⊥) → s.layer.kids ≡ []
-  no_kids = by_sort t (λ q l. ((h : Ty) → q ≡ part.Ty h → ⊥) → ((h : Tys) → q ≡ part.Tys h → ⊥) → l.kids ≡ [])
-      (λ h k no_ty no_tys. absurd (no_ty h refl)) (λ h k _ _. refl) (λ h k _ _. refl) (λ h ts no_ty no_tys. absurd (no_tys h refl)) (λ h vs _ _. refl) (λ h vs _ _. refl) (λ k i _ _. refl)
-
-  -- ---- binders
-
-  are_variables : (vs : List BoundVarKind) → are_kinds (map variable_field vs) ≡ true
-  are_variables [] = refl
-  are_variables (v ∷ vs) = are_variables vs
-
-  variables_list_is : (vs : List BoundVarKind) → is_variable_list (variables_layer vs) ≡ true
-  variables_list_is vs = let all = are_variables vs in rw all
-
-  -- a live list of variables binds
-  pub variables_bind : (v : BoundVarKinds) → IsLive (heap_of t) (part.BoundVarKinds v) → is_binder (heap_of t) (Some (part.BoundVarKinds v)) ≡ true
-  unfolding heap_of
-  variables_bind v live = by (slice_get t.variable_lists v.index) live
-    where
-      by : (o : Option (List BoundVarKind × Kept)) → is_some (option_map (sketch_of variables_layer) o) ≡ true → option_map_or (λ (s : Sketch Part). is_variable_list s.layer) (option_map (sketch_of variables_layer) o) false ≡ true
-      by None l = absurd (true≢false (sym l))
-      by (Some e) l = variables_list_is e.0
-
-  pub ty_binder_ok : (k : TyKind) → Each (IsLive (heap_of t)) (names_in (ty_layer k)) → is_binder (heap_of t) (ty_binder k) ≡ true
-  ty_binder_ok k live = elim (ty_binds k) [
-    | inl none ↦ ap (is_binder (heap_of t)) none
-    | inr some ↦
-        let all : Each (IsLive (heap_of t)) (with_binder (Some (part.BoundVarKinds some.0)) (ty_layer k).kids) = subst (λ o. Each (IsLive (heap_of t)) (with_binder o (ty_layer k).kids)) some.1 live in
-        ap (is_binder (heap_of t)) some.1 ∙ variables_bind some.0 all.0
-  ]
-
--- ---- a table that gets one more pair
-
-module _ {K : Type 0} (f : K × Kept → Sketch Part) (es : List (K × Kept)) (e : K × Kept) where
-  at_end : option_map f (slice_get es (length es)) ≡ None
-  at_end = ap (option_map f) (slice_get_end es)
-
-  at_new : option_map f (slice_get (es ++ e ∷ []) (length es)) ≡ Some (f e)
-  at_new = ap (option_map f) (slice_get_push es e)
-
--- What a heap says of a sort whose parts have a table of their own: the pair at i is the node of `name (handle i)`, no other part goes by the table, and a kind is told by its layer
-pub record HasTable {K T : Type 0} (name : T → Part) (handle : ℕ → T) (layer : K → Layer Part) (heap : List (K × Kept) → Heap Part) : Type 0 where
-  pub at : (es : List (K × Kept)) (i : ℕ) → heap es (name (handle i)) ≡ option_map (sketch_of layer) (slice_get es i)
-  pub others : (es fs : List (K × Kept)) (q : Part) → ((i : ℕ) × (q ≡ name (handle i))) ⊎ (heap es q ≡ heap fs q)
-  pub own : (es : List (K × Kept)) (k : K) (q : Part) (s : Sketch Part) → heap es q ≡ Some s → s.layer ≡ layer k → (i : ℕ) × (q ≡ name (handle i))
-  pub told : (k l : K) → layer k ≡ layer l → k ≡ l
-
-module _ {K T : Type 0} {name : T → Part} {handle : ℕ → T} {layer : K → Layer Part} {heap : List (K × Kept) → Heap Part} (table : HasTable name handle layer heap) where
-  pub table_adds : (es : List (K × Kept)) (e : K × Kept) → Adds (heap es) (heap (es ++ e ∷ [])) (name (handle (length es))) (sketch_of layer e)
-  table_adds es e = record {
-    before = table.at es (length es) ∙ at_end (sketch_of layer) es e;
-    after = table.at (es ++ e ∷ []) (length es) ∙ at_new (sketch_of layer) es e;
-    others = λ q. by q (table.others es (es ++ e ∷ []) q);
-  }
-    where
-      by : (q : Part) → ((i : ℕ) × (q ≡ name (handle i))) ⊎ (heap es q ≡ heap (es ++ e ∷ []) q) → (q ≡ name (handle (length es))) ⊎ (heap (es ++ e ∷ []) q ≡ heap es q)
-      by q (inr same) = inr (sym same)
-      by q (inl here) = elim (slice_get_push_other es e here.0) [
-        | inl last ↦ inl (here.1 ∙ ap (λ i. name (handle i)) last)
-        | inr same ↦ inr (ap (heap (es ++ e ∷ [])) here.1 ∙ table.at (es ++ e ∷ []) here.0 ∙ ap (option_map (sketch_of layer)) same ∙ sym (table.at es here.0) ∙ ap (heap es) (sym here.1))
-      ]
-
-  -- where no pair has the kind, no part has its node
-  pub table_fresh : (es : List (K × Kept)) (k : K) → HasNoKey es k → (q : Part) (s : Sketch Part) → heap es q ≡ Some s → s.layer ≡ layer k → ⊥
-  table_fresh es k lacks q s e layers =
-      let here = table.own es k q s e layers in
-      let p = pair_of (sketch_of layer) (slice_get es here.0) s (sym (table.at es here.0) ∙ ap (heap es) (sym here.1) ∙ e) in
-      let same : p.0.0 ≡ k = table.told p.0.0 k (ap (λ (u : Sketch Part). u.layer) p.2 ∙ layers) in
-      lacks here.0 (p.0.1, p.1 ∙ ap (λ j. Some (j, p.0.1)) same)
-
-  pub table_at : (es : List (K × Kept)) (i : ℕ) (k : K) (c : Kept) → slice_get es i ≡ Some (k, c) → heap es (name (handle i)) ≡ Some (sketch_of layer (k, c))
-  table_at es i k c e = table.at es i ∙ ap (option_map (sketch_of layer)) e
-
--- a live name lies within its table
-pub live_within : {K : Type 0} (f : K × Kept → Sketch Part) (es : List (K × Kept)) (i : ℕ) → is_some (option_map f (slice_get es i)) ≡ true → i < length es
-live_within f [] i h = absurd (true≢false (sym h))
-live_within f (e ∷ es) zero h = omega arith
-live_within f (e ∷ es) (suc i) h = let r = live_within f es i h in omega arith
-
--- a push that may fail leaves the heap sound
-pub pushed_or_kept : {K V R E : Type 0} (F : List (K × V) → Type 0) (r : Result R E) (old new : List (K × V)) (e : K × V) → OnOk r (new ≡ old ++ e ∷ []) → OnErr r (new ≡ old) → F (old ++ e ∷ []) → F old → F new
-pushed_or_kept F (Ok x) old new e a b more same = subst F (sym a) more
-pushed_or_kept F (Err x) old new e a b more same = subst F (sym b) same
-
-pub empty_within : (k : EmptyList) (es : List (EmptyList × Kept)) (i : ℕ) → is_some (empty_at k (slice_get es i)) ≡ true → i < length es
-empty_within k [] i h = absurd (true≢false (sym h))
-empty_within k (e ∷ es) zero h = omega arith
-empty_within k (e ∷ es) (suc i) h = let r = empty_within k es i h in omega arith
-
--- the test of `holds`
-pub within_live : {K : Type 0} (f : K × Kept → Sketch Part) (es : List (K × Kept)) (i : ℕ) → i < length es → is_some (option_map f (slice_get es i)) ≡ true
-within_live f [] i h = absurd (omega arith)
-within_live f (e ∷ es) zero h = refl
-within_live f (e ∷ es) (suc i) h = within_live f es i (omega arith)
-
-pub holds_iff : {K : Type 0} (f : K × Kept → Sketch Part) (es : List (K × Kept)) (i n : ℕ) → n ≡ length es → IsTrue (nat_lt i n) ↔ (is_some (option_map f (slice_get es i)) ≡ true)
-holds_iff f es i n e = (
-  λ t. let w : i < n = grind (arith, nat_tests) in within_live f es i (omega arith),
-  λ l. let w : i < length es = live_within f es i l in let v : i < n = omega arith in grind (arith, nat_tests),
-)
-
-pub map_injective : {X Y : Type 0} (f : X → Y) → ((a b : X) → f a ≡ f b → a ≡ b) → (xs ys : List X) → map f xs ≡ map f ys → xs ≡ ys
-map_injective f one [] [] e = refl
-map_injective f one [] (y ∷ ys) e = absurd cc
-map_injective f one (x ∷ xs) [] e = absurd cc
-map_injective f one (x ∷ xs) (y ∷ ys) e =
-    let a : f x ≡ f y = cc in
-    let b : map f xs ≡ map f ys = cc in
-    let c = one x y a in
-    let d = map_injective f one xs ys b in cc
-
--- ---- the sorts with tables of their own
-
-is_ty : (q : Part) → sort_of q ≡ ty → (i : ℕ) × (q ≡ part.Ty (record { index = i }))
-is_ty (part.Ty h) e = (h.index, refl)
-is_ty _ e = absurd cc
-
-is_const : (q : Part) → sort_of q ≡ constant → (i : ℕ) × (q ≡ part.Const (record { index = i }))
-is_const (part.Const h) e = (h.index, refl)
-is_const _ e = absurd cc
-
-is_region : (q : Part) → sort_of q ≡ region → (i : ℕ) × (q ≡ part.Region (record { index = i }))
-is_region (part.Region h) e = (h.index, refl)
-is_region _ e = absurd cc
-
-is_tys : (q : Part) → sort_of q ≡ tys_list → (i : ℕ) × (q ≡ part.Tys (record { index = i }))
-is_tys (part.Tys h) e = (h.index, refl)
-is_tys _ e = absurd cc
-
-is_variables : (q : Part) → sort_of q ≡ variables_list → (i : ℕ) × (q ≡ part.BoundVarKinds (record { index = i }))
-is_variables (part.BoundVarKinds h) e = (h.index, refl)
-is_variables _ e = absurd cc
-
-is_variances : (q : Part) → sort_of q ≡ variances_list → (i : ℕ) × (q ≡ part.VariancesOf (record { index = i }))
-is_variances (part.VariancesOf h) e = (h.index, refl)
-is_variances _ e = absurd cc
-
--- each is told by its field
-field_told : {X : Type 0} (f : X → Field SolverDefId) → ((x y : X) → f x ≡ f y → x ≡ y) → (w : Word) (xs ys : List X) → layer w (map f xs) [] ≡ layer w (map f ys) [] → xs ≡ ys
-field_told f one w xs ys e = map_injective f one xs ys (ap (λ (l : Layer Part). l.label.fields) e)
-
-variable_told : (x y : BoundVarKind) → variable_field x ≡ variable_field y → x ≡ y
-variable_told x y e = sym (variable_back x) ∙ ap variable_in (kind_of e) ∙ variable_back y
-  where
-    kind_of : variable_field x ≡ variable_field y → variable_seen x ≡ variable_seen y
-    kind_of e = cc e
-
-variance_of : Field SolverDefId → Variance
-variance_of (Chosen Covariant) = variance.Covariant
-variance_of (Chosen Contravariant) = variance.Contravariant
-variance_of (Chosen Bivariant) = variance.Bivariant
-variance_of f = variance.Invariant
-
-variance_back : (x : Variance) → variance_of (variance_field x) ≡ x
-unfolding variance_of
-variance_back variance.Covariant = refl
-variance_back variance.Invariant = refl
-variance_back variance.Contravariant = refl
-variance_back variance.Bivariant = refl
-
-variance_told : (x y : Variance) → variance_field x ≡ variance_field y → x ≡ y
-variance_told x y e = sym (variance_back x) ∙ ap variance_of e ∙ variance_back y
-
-module _ (t : Tables) where
-  pub ty_table : HasTable part.Ty (λ i. record { index = i }) ty_layer (λ es. heap_of (with_tys t es))
-  unfolding heap_of
-  ty_table = record {
-    at = λ es i. refl;
-    others = λ es fs. elim [ part.Ty h ↦ inl (h.index, refl) | _ ↦ inr refl ];
-    own = λ es k q s e layers. is_ty q (sym (sorted (with_tys t es) q s e) ∙ ap layer_sort layers ∙ ty_layer_sort k);
-    told = λ k l x. sym (ty_of-parts k) ∙ ap (λ (m : Layer Part). ty_of m.label.word m.label.fields m.binder m.kids) x ∙ ty_of-parts l;
-  }
-
-  pub const_table : HasTable part.Const (λ i. record { index = i }) const_layer (λ es. heap_of (with_consts t es))
-  unfolding heap_of
-  const_table = record {
-    at = λ es i. refl;
-    others = λ es fs. elim [ part.Const h ↦ inl (h.index, refl) | _ ↦ inr refl ];
-    own = λ es k q s e layers. is_const q (sym (sorted (with_consts t es) q s e) ∙ ap layer_sort layers ∙ const_layer_sort k);
-    told = λ k l x. sym (const_of-parts k) ∙ ap (λ (m : Layer Part). const_of m.label.word m.label.fields) x ∙ const_of-parts l;
-  }
-
-  pub region_table : HasTable part.Region (λ i. record { index = i }) region_layer (λ es. heap_of (with_regions t es))
-  unfolding heap_of
-  region_table = record {
-    at = λ es i. refl;
-    others = λ es fs. elim [ part.Region h ↦ inl (h.index, refl) | _ ↦ inr refl ];
-    own = λ es k q s e layers. is_region q (sym (sorted (with_regions t es) q s e) ∙ ap layer_sort layers ∙ region_layer_sort k);
-    told = λ k l x. sym (region_of-parts k) ∙ ap (λ (m : Layer Part). region_of m.label.word m.label.fields) x ∙ region_of-parts l;
-  }
-
-  pub tys_table : HasTable part.Tys (λ i. record { index = i }) tys_layer (λ es. heap_of (with_type_lists t es))
-  unfolding heap_of
-  tys_table = record {
-    at = λ es i. refl;
-    others = λ es fs. elim [ part.Tys h ↦ inl (h.index, refl) | _ ↦ inr refl ];
-    own = λ es k q s e layers. is_tys q (sym (sorted (with_type_lists t es) q s e) ∙ ap layer_sort layers);
-    told = λ k l x. map_injective part.Ty (λ a b w. cc w) k l (ap (λ (m : Layer Part). m.kids) x);
-  }
-
-  pub variables_table : HasTable part.BoundVarKinds (λ i. record { index = i }) variables_layer (λ es. heap_of (with_variable_lists t es))
-  unfolding heap_of
-  variables_table = record {
-    at = λ es i. refl;
-    others = λ es fs. elim [ part.BoundVarKinds h ↦ inl (h.index, refl) | _ ↦ inr refl ];
-    own = λ es k q s e layers. is_variables q (sym (sorted (with_variable_lists t es) q s e) ∙ ap layer_sort layers);
-    told = λ k l x. field_told variable_field variable_told VariableList k l x;
-  }
-
-  pub variances_table : HasTable part.VariancesOf (λ i. record { index = i }) variances_layer (λ es. heap_of (with_variance_lists t es))
-  unfolding heap_of
-  variances_table = record {
-    at = λ es i. refl;
-    others = λ es fs. elim [ part.VariancesOf h ↦ inl (h.index, refl) | _ ↦ inr refl ];
-    own = λ es k q s e layers. is_variances q (sym (sorted (with_variance_lists t es) q s e) ∙ ap layer_sort layers);
-    told = λ k l x. field_told variance_field variance_told VarianceList k l x;
-  }
-
--- ---- the empty lists, which share a table
-
-is_empty : (k : EmptyList) (q : Part) → sort_of q ≡ empty_list k → (i : ℕ) × (q ≡ empty_part k i)
-is_empty k (part.GenericArgs h) e = let same : empty.GenericArgs ≡ k = cc in (h.index, ap (λ l. empty_part l h.index) same)
-is_empty k (part.PatList h) e = let same : empty.PatList ≡ k = cc in (h.index, ap (λ l. empty_part l h.index) same)
-is_empty k (part.BoundExistentialPredicates h) e = let same : empty.BoundExistentialPredicates ≡ k = cc in (h.index, ap (λ l. empty_part l h.index) same)
-is_empty k (part.Clauses h) e = let same : empty.Clauses ≡ k = cc in (h.index, ap (λ l. empty_part l h.index) same)
-is_empty k (part.RegionAssumptions h) e = let same : empty.RegionAssumptions ≡ k = cc in (h.index, ap (λ l. empty_part l h.index) same)
-is_empty k _ e = absurd cc
-
-module _ (t : Tables) where
-  heap_empty : (es : List (EmptyList × Kept)) (k : EmptyList) (i : ℕ) → heap_of (with_empty_lists t es) (empty_part k i) ≡ empty_at k (slice_get es i)
-  unfolding heap_of
-  heap_empty es empty.GenericArgs i = refl
-  heap_empty es empty.PatList i = refl
-  heap_empty es empty.BoundExistentialPredicates i = refl
-  heap_empty es empty.Clauses i = refl
-  heap_empty es empty.RegionAssumptions i = refl
-
-  empty_or_other : (es fs : List (EmptyList × Kept)) (q : Part) → ((k : EmptyList) × (i : ℕ) × (q ≡ empty_part k i)) ⊎ (heap_of (with_empty_lists t es) q ≡ heap_of (with_empty_lists t fs) q)
-  unfolding heap_of
-  empty_or_other es fs = elim [
-    | part.GenericArgs h ↦ inl (empty.GenericArgs, h.index, refl)
-    | part.PatList h ↦ inl (empty.PatList, h.index, refl)
-    | part.BoundExistentialPredicates h ↦ inl (empty.BoundExistentialPredicates, h.index, refl)
-    | part.Clauses h ↦ inl (empty.Clauses, h.index, refl)
-    | part.RegionAssumptions h ↦ inl (empty.RegionAssumptions, h.index, refl)
-    | _ ↦ inr refl
-  ]
-
-  -- the last pair is of its sort alone
-  last_empty : (es : List (EmptyList × Kept)) (e : EmptyList × Kept) (k : EmptyList) (i : ℕ)
-      → (empty_part k i ≡ empty_part e.0 (length es)) ⊎ (empty_at k (slice_get (es ++ e ∷ []) i) ≡ empty_at k (slice_get es i))
-  last_empty es e k i = by (slice_get_push_other es e i) (nat_eq (empty_number e.0) (empty_number k)) refl
-    where
-      by : (i ≡ length es) ⊎ (slice_get (es ++ e ∷ []) i ≡ slice_get es i) → (b : Bool) → nat_eq (empty_number e.0) (empty_number k) ≡ b
-          → (empty_part k i ≡ empty_part e.0 (length es)) ⊎ (empty_at k (slice_get (es ++ e ∷ []) i) ≡ empty_at k (slice_get es i))
-      by (inr same) b test = inr (ap (empty_at k) same)
-      by (inl last) true test = inl (λ j. empty_part (sym (empty_same e.0 k test) j) (last j))
-      by (inl last) false test = inr (
-          ap (λ j. empty_at k (slice_get (es ++ e ∷ []) j)) last ∙ ap (empty_at k) (slice_get_push es e) ∙ ap (λ b. if b then Some (sketch_of empty_layer e) else None) test
-          ∙ sym (ap (λ j. empty_at k (slice_get es j)) last ∙ ap (empty_at k) (slice_get_end es))
-          )
-
-  pub empty_adds : (es : List (EmptyList × Kept)) (e : EmptyList × Kept) → Adds (heap_of (with_empty_lists t es)) (heap_of (with_empty_lists t (es ++ e ∷ []))) (empty_part e.0 (length es)) (sketch_of empty_layer e)
-  empty_adds es e = record {
-    before = heap_empty es e.0 (length es) ∙ ap (empty_at e.0) (slice_get_end es);
-    after = heap_empty (es ++ e ∷ []) e.0 (length es) ∙ ap (empty_at e.0) (slice_get_push es e) ∙ empty_here e.0 e.1;
-    others = λ q. by q (empty_or_other es (es ++ e ∷ []) q);
-  }
-    where
-      by : (q : Part) → ((k : EmptyList) × (i : ℕ) × (q ≡ empty_part k i)) ⊎ (heap_of (with_empty_lists t es) q ≡ heap_of (with_empty_lists t (es ++ e ∷ [])) q)
-          → (q ≡ empty_part e.0 (length es)) ⊎ (heap_of (with_empty_lists t (es ++ e ∷ [])) q ≡ heap_of (with_empty_lists t es) q)
-      by q (inr same) = inr (sym same)
-      by q (inl here) = elim (last_empty es e here.0 here.1) [
-        | inl last ↦ inl (here.2 ∙ last)
-        | inr same ↦ inr (ap (heap_of (with_empty_lists t (es ++ e ∷ []))) here.2 ∙ heap_empty (es ++ e ∷ []) here.0 here.1 ∙ same ∙ sym (heap_empty es here.0 here.1) ∙ ap (heap_of (with_empty_lists t es)) (sym here.2))
-      ]
-
-  pub empty_fresh : (es : List (EmptyList × Kept)) (k : EmptyList) → HasNoKey es k → (q : Part) (s : Sketch Part) → heap_of (with_empty_lists t es) q ≡ Some s → s.layer ≡ empty_layer k → ⊥
-  empty_fresh es k lacks q s e layers =
-      let here = is_empty k q (sym (sorted (with_empty_lists t es) q s e) ∙ ap layer_sort layers ∙ empty_word_sort k) in
-      let p = empty_pair k (slice_get es here.0) s (sym (heap_empty es k here.0) ∙ ap (heap_of (with_empty_lists t es)) (sym here.1) ∙ e) in
-      lacks here.0 (p.0, p.1)
-
-  pub empty_stands : (es : List (EmptyList × Kept)) (i : ℕ) (k : EmptyList) (c : Kept) → slice_get es i ≡ Some (k, c) → heap_of (with_empty_lists t es) (empty_part k i) ≡ Some (sketch_of empty_layer (k, c))
-  empty_stands es i k c e = heap_empty es k i ∙ ap (empty_at k) e ∙ empty_here k c
-
--- ---- tables with no pairs
-
-abbrev pub no_tables : Tables
-no_tables = record { tys = []; consts = []; regions = []; type_lists = []; variable_lists = []; variance_lists = []; empty_lists = [] }
-
-pub nothing_held : (p : Part) → heap_of no_tables p ≡ None
+pub heap_at : (t : Tables) (g : PartSort) (i : ℕ) → heap_of t (part_at g i) ≡ only g (slice_get (table_of t g) i)
 unfolding heap_of
-nothing_held = elim [ part.Ty h ↦ refl | _ ↦ refl ]
+heap_at t sort.Tys i = refl
+heap_at t _ i = refl
 
-pub empty_sound : IsSound (heap_of no_tables)
-empty_sound = record {
-  kids = λ p s e. absurd (none-some s (sym (nothing_held p) ∙ e));
-  binder = λ p s e. absurd (none-some s (sym (nothing_held p) ∙ e));
-  height = λ p s e. absurd (none-some s (sym (nothing_held p) ∙ e));
-  size = λ p s e. absurd (none-some s (sym (nothing_held p) ∙ e));
-  flags = λ p s e. absurd (none-some s (sym (nothing_held p) ∙ e));
-  outer = λ p s e. absurd (none-some s (sym (nothing_held p) ∙ e));
-  distinct = λ p q s t e f a. absurd (none-some s (sym (nothing_held p) ∙ e));
+pub heap_in : (t : Tables) (q : Part) → heap_of t q ≡ only (sort_in q) (slice_get (table_of t (sort_in q)) (index_in q))
+unfolding heap_of
+heap_in t q = refl
+
+-- ---- nodes of one sort
+
+is_itself : (g : PartSort) (o : Option PartSort) → o ≡ Some g → is_of g o ≡ true
+is_itself g o e = ap (is_of g) e ∙ true_same the_type g g refl
+
+is_same : (g : PartSort) (o : Option PartSort) → is_of g o ≡ true → o ≡ Some g
+is_same g None e = absurd (true≢false (sym e))
+is_same g (Some h) e = ap Some (sym (same_true the_type tt g h e))
+
+pub only_here : (g : PartSort) (s : Sketch Part) → layer_sort s.layer ≡ Some g → only g (Some s) ≡ Some s
+only_here g s e = ap (λ b. if b then Some s else None) (is_itself g (layer_sort s.layer) e)
+
+pub only_some : (g : PartSort) (o : Option (Sketch Part)) (s : Sketch Part) → only g o ≡ Some s → (o ≡ Some s) × (layer_sort s.layer ≡ Some g)
+only_some g None s e = absurd (none-some s e)
+only_some g (Some t) s e = by (is_of g (layer_sort t.layer)) refl
+  where
+    by : (b : Bool) → is_of g (layer_sort t.layer) ≡ b → (Some t ≡ Some s) × (layer_sort s.layer ≡ Some g)
+    by true is =
+        let same : Some t ≡ Some s = sym (ap (λ b. if b then Some t else None) is) ∙ e in
+        (same, ap (λ (u : Sketch Part). layer_sort u.layer) (sym (same_Some t s same)) ∙ is_same g (layer_sort t.layer) is)
+    by false is = let bad : None ≡ Some s = sym (ap (λ b. if b then Some t else None) is) ∙ e in absurd (none-some s bad)
+
+-- either it is of the sort, or it isn't there
+only_other : (g h : PartSort) (s : Sketch Part) → layer_sort s.layer ≡ Some g → (h ≡ g) ⊎ (only h (Some s) ≡ None)
+only_other g h s e = by (same_part_sort h g) refl
+  where
+    by : (b : Bool) → same_part_sort h g ≡ b → (h ≡ g) ⊎ (only h (Some s) ≡ None)
+    by true is = inl (same_true the_type tt h g is)
+    by false is = inr (ap (λ o. if is_of h o then Some s else None) e ∙ ap (λ b. if b then Some s else None) is)
+
+pub owned_sort : (owns : PartSort → Bool) (o : Option PartSort) → is_owned owns o ≡ true → (g : PartSort) × (o ≡ Some g) × (owns g ≡ true)
+owned_sort owns None e = absurd (true≢false (sym e))
+owned_sort owns (Some g) e = (g, refl, e)
+
+-- ---- a table among the tables
+
+abbrev seen : Part → List (Sketch Part) → Option (Sketch Part)
+seen q xs = only (sort_in q) (slice_get xs (index_in q))
+
+module _ {owns : PartSort → Bool} {entries : Tables → List (Sketch Part)} {put : Tables → List (Sketch Part) → Tables} (table : IsTable owns entries put)
+    (t : Tables) (limits : GivenLimits) (l : Layer Part) (g : PartSort) (sort : layer_sort l ≡ Some g) (mine : owns g ≡ true) where
+  stands : (es : List (Sketch Part)) (i : ℕ) (s : Sketch Part) → slice_get es i ≡ Some s → s.layer ≡ l → heap_of (put t es) (part_at g i) ≡ Some s
+  stands es i s e layers = heap_at (put t es) g i ∙ ap (λ xs. only g (slice_get xs i)) (table.own t es g mine) ∙ ap (only g) e ∙ only_here g s (ap layer_sort layers ∙ sort)
+
+  others : (es : List (Sketch Part)) (s : Sketch Part) → s.layer ≡ l → (q : Part) → (q ≡ part_at g (length es)) ⊎ (heap_of (put t (es ++ s ∷ [])) q ≡ heap_of (put t es) q)
+  others es s layers q = by (owns (sort_in q)) refl
+    where
+      by : (b : Bool) → owns (sort_in q) ≡ b → (q ≡ part_at g (length es)) ⊎ (heap_of (put t (es ++ s ∷ [])) q ≡ heap_of (put t es) q)
+      by false o = inr (heap_in (put t (es ++ s ∷ [])) q ∙ ap (seen q) (table.other t (es ++ s ∷ []) (sort_in q) o ∙ sym (table.other t es (sort_in q) o)) ∙ sym (heap_in (put t es) q))
+      by true o = elim (slice_get_push_other es s (index_in q)) [
+        | inl last ↦ elim (only_other g (sort_in q) s (ap layer_sort layers ∙ sort)) [
+          | inl same ↦ inl (part_back q ∙ ap₂ part_at same last)
+          | inr gone ↦ inr (
+              heap_in (put t (es ++ s ∷ [])) q ∙ ap (seen q) (table.own t (es ++ s ∷ []) (sort_in q) o) ∙ ap (λ i. only (sort_in q) (slice_get (es ++ s ∷ []) i)) last ∙ ap (only (sort_in q)) (slice_get_push es s) ∙ gone
+              ∙ sym (heap_in (put t es) q ∙ ap (seen q) (table.own t es (sort_in q) o) ∙ ap (λ i. only (sort_in q) (slice_get es i)) last ∙ ap (only (sort_in q)) (slice_get_end es))
+              )
+        ]
+        | inr same ↦ inr (
+            heap_in (put t (es ++ s ∷ [])) q ∙ ap (seen q) (table.own t (es ++ s ∷ []) (sort_in q) o) ∙ ap (only (sort_in q)) same
+            ∙ sym (heap_in (put t es) q ∙ ap (seen q) (table.own t es (sort_in q) o))
+            )
+      ]
+
+  pub is_sort : IsSort g l (λ es. state_of (put t es) limits)
+  is_sort = record {
+    adds = λ es s layers. record {
+      before = heap_at (put t es) g (length es) ∙ ap (λ xs. only g (slice_get xs (length es))) (table.own t es g mine) ∙ ap (only g) (slice_get_end es);
+      after = stands (es ++ s ∷ []) (length es) s (slice_get_push es s) layers;
+      others = others es s layers;
+    };
+    fresh = λ es lacks q u e layers.
+        let w = only_some (sort_in q) (slice_get (table_of (put t es) (sort_in q)) (index_in q)) u (sym (heap_in (put t es) q) ∙ e) in
+        let same = same_Some (sort_in q) g (sym w.1 ∙ ap layer_sort layers ∙ sort) in
+        lacks (index_in q) (u, ap (λ xs. slice_get xs (index_in q)) (sym (table.own t es (sort_in q) (ap owns same ∙ mine))) ∙ w.0, layers);
+    at = stands;
+    count = table.count t;
+    limits = λ es fs. refl;
+  }
+
+-- ---- binders
+
+-- a live list of variables binds
+pub variables_bind : (h : Heap Part) → ((p : Part) (s : Sketch Part) → h p ≡ Some s → layer_sort s.layer ≡ Some (sort_in p)) → AllFit h → (p : Part) → sort_in p ≡ sort.BoundVarKinds → IsLive h p → is_binder h (Some p) ≡ true
+variables_bind h sorted fit p is live =
+    let x = node_of h p live in
+    let kind = sorted p x.0 x.1 ∙ ap Some is in
+    is_binder_at h p x.0 x.1 (ap (λ o. fits_sort o x.0.layer) (sym kind) ∙ fit p x.0 x.1)
+
+pub sorted : (t : Tables) (p : Part) (s : Sketch Part) → heap_of t p ≡ Some s → layer_sort s.layer ≡ Some (sort_in p)
+sorted t p s e = (only_some (sort_in p) (slice_get (table_of t (sort_in p)) (index_in p)) s (sym (heap_in t p) ∙ e)).1
+
+binder_of_row : (h : Heap Part) → ((p : Part) (s : Sketch Part) → h p ≡ Some s → layer_sort s.layer ≡ Some (sort_in p)) → AllFit h → (b : Bool) (o : Option Part) (ps : List Part) → binder_fits b o ≡ true → Each (IsLive h) (with_binder o ps) → is_binder h o ≡ true
+binder_of_row h sort fit b None ps e live = refl
+binder_of_row h sort fit true (Some (part.BoundVarKinds v)) ps e live = variables_bind h sort fit (part.BoundVarKinds v) refl live.0
+binder_of_row h sort fit false (Some p) ps e live = absurd (true≢false (sym e))
+binder_of_row h sort fit true (Some p) ps e live = absurd (true≢false (sym e))
+
+none_names : (ks : Kids Part) → has_none ks ≡ true → are_names ks ≡ true
+none_names (OfNames ps) e = refl
+none_names (Inlined i ks) e = absurd (true≢false (sym e))
+
+-- the parts of a row's fit
+row_binder : (l : Layer Part) → fits_row l ≡ true → binder_fits (has_for_group (row l.label.word).parts) l.binder ≡ true
+row_binder l e = (and_parts _ _ (and_parts _ _ e).1).0
+
+row_names : (l : Layer Part) → fits_row l ≡ true → are_names l.kids ≡ true
+row_names l e = (and_parts _ _ (and_parts _ _ (and_parts _ _ e).1).1).0
+
+-- what fits has names as its kids
+pub fits_names : (l : Layer Part) → layer_fits l ≡ true → are_names l.kids ≡ true
+fits_names l fits = by (layer_sort l) fits
+  where
+    of_empty : is_empty_list l ≡ true → are_names l.kids ≡ true
+    of_empty e = none_names l.kids (and_parts (not (is_some l.binder)) (has_none l.kids) (and_parts (has_no_fields l.label.fields) (not (is_some l.binder) && has_none l.kids) e).1).1
+
+    by : (o : Option PartSort) → fits_sort o l ≡ true → are_names l.kids ≡ true
+    by None e = absurd (true≢false (sym e))
+    by (Some sort.Tys) e = (and_parts _ _ (and_parts _ _ (and_parts _ _ e).1).1).0
+    by (Some sort.GenericArgs) e = of_empty e
+    by (Some sort.PatList) e = of_empty e
+    by (Some sort.BoundExistentialPredicates) e = of_empty e
+    by (Some sort.Clauses) e = of_empty e
+    by (Some sort.RegionAssumptions) e = of_empty e
+    by (Some sort.BoundVarKinds) e = none_names l.kids (and_parts _ _ e).1
+    by (Some sort.VariancesOf) e = none_names l.kids (and_parts _ _ (and_parts _ _ e).1).1
+    by (Some _) e = row_names l e
+
+no_binder : (o : Option Part) → not (is_some o) ≡ true → o ≡ None
+no_binder None e = refl
+no_binder (Some p) e = absurd (true≢false (sym e))
+
+-- a node binds as its row says, and a list doesn't
+pub fits_binder : (l : Layer Part) → layer_fits l ≡ true → (fits_row l ≡ true) ⊎ (l.binder ≡ None)
+fits_binder l fits = by (layer_sort l) fits
+  where
+    of_empty : is_empty_list l ≡ true → (fits_row l ≡ true) ⊎ (l.binder ≡ None)
+    of_empty e = inr (no_binder l.binder (and_parts (not (is_some l.binder)) (has_none l.kids) (and_parts (has_no_fields l.label.fields) (not (is_some l.binder) && has_none l.kids) e).1).0)
+
+    by : (o : Option PartSort) → fits_sort o l ≡ true → (fits_row l ≡ true) ⊎ (l.binder ≡ None)
+    by None e = absurd (true≢false (sym e))
+    by (Some sort.Tys) e = inr (no_binder l.binder (and_parts _ _ (and_parts _ _ e).1).0)
+    by (Some sort.GenericArgs) e = of_empty e
+    by (Some sort.PatList) e = of_empty e
+    by (Some sort.BoundExistentialPredicates) e = of_empty e
+    by (Some sort.Clauses) e = of_empty e
+    by (Some sort.RegionAssumptions) e = of_empty e
+    by (Some sort.BoundVarKinds) e = inr (no_binder l.binder (and_parts _ _ (and_parts _ _ e).0).1)
+    by (Some sort.VariancesOf) e = inr (no_binder l.binder (and_parts _ _ (and_parts _ _ e).1).0)
+    by (Some _) e = inl e
+
+-- no list may bind
+list_group : (w : Word) → is_some (list_sort w) ≡ true → has_for_group (row w).parts ≡ false
+list_group TypeList e = refl
+list_group ArgumentList e = refl
+list_group PatternList e = refl
+list_group ExistentialList e = refl
+list_group ClauseList e = refl
+list_group VariableList e = refl
+list_group VarianceList e = refl
+list_group AssumptionList e = refl
+list_group w e = absurd (true≢false (sym e))
+
+-- what fits is counted
+counted : (h : Heap Part) (l : Layer Part) → layer_fits l ≡ true → is_shape_counted (shape_over h l) ≡ true
+counted h l fits = by (leaf_of l.label) (sort_of_label l.label) refl fits
+  where
+    bound : binder_fits (has_for_group (row l.label.word).parts) l.binder ≡ true → (is_bound (shape_over h l).bind || not (has_for_group (row l.label.word).parts)) ≡ true
+    bound e = over (has_for_group (row l.label.word).parts) l.binder e
+      where
+        over : (g : Bool) (o : Option Part) → binder_fits g o ≡ true → (is_bound (option_map (kinds_at h) o) || not g) ≡ true
+        over g (Some p) e = refl
+        over false None e = refl
+        over true None e = absurd (true≢false (sym e))
+
+    unbound : has_for_group (row l.label.word).parts ≡ false → (is_bound (shape_over h l).bind || not (has_for_group (row l.label.word).parts)) ≡ true
+    unbound e = over (is_bound (shape_over h l).bind) (has_for_group (row l.label.word).parts) e
+      where
+        over : (b g : Bool) → g ≡ false → (b || not g) ≡ true
+        over true g e = refl
+        over false g e = ap not e
+
+    of_sort : (s : Sort) → sort_of_label l.label ≡ s → not (same_sort s OfExistential) ≡ true → (is_bound (shape_over h l).bind || not (has_for_group (row l.label.word).parts)) ≡ true → is_counted l.label (shape_over h l).bind ≡ true
+    of_sort s is other e = and_from _ _ (ap (λ x. not (same_sort x OfExistential)) is ∙ other) e
+
+    some_sort : (o : Option PartSort) → fits_sort o l ≡ true → is_some o ≡ true
+    some_sort None e = absurd (true≢false (sym e))
+    some_sort (Some g) e = refl
+
+    by : (o : Option Term) (s : Sort) → sort_of_label l.label ≡ s → fits_sort (sort_by s l.label.word) l ≡ true → (is_some o || is_counted l.label (shape_over h l).bind) ≡ true
+    by (Some t) s is e = refl
+    by None OfList is e = of_sort OfList is refl (unbound (list_group l.label.word (some_sort (list_sort l.label.word) e)))
+    by None OfExistential is e = absurd (true≢false (sym e))
+    by None s is e = of_sort s is refl (bound (row_binder l (sym (fits_term (term_sort s) l (term_is s (some_sort (term_sort s) e))) ∙ e)))
+
+-- what fits over live names is a node of a heap
+pub node_ok : (t : Tables) → AllFit (heap_of t) → (l : Layer Part) → layer_fits l ≡ true → Each (IsLive (heap_of t)) (names_in l) → IsNode (heap_of t) (IsLive (heap_of t)) l
+node_ok t fit l fits live = record {
+  binder = ⊎_elim
+      (λ fit_row. binder_of_row (heap_of t) (sorted t) fit (has_for_group (row l.label.word).parts) l.binder (kid_names l.kids) (row_binder l fit_row) live)
+      (λ none. ap (is_binder (heap_of t)) none)
+      (fits_binder l fits);
+  count = counted (heap_of t) l fits;
+  kids = kids l.kids (fits_names l fits) (kids_of_names (IsLive (heap_of t)) l.binder (kid_names l.kids) live);
 }
+  where
+    kids : (ks : Kids Part) → are_names ks ≡ true → Each (IsLive (heap_of t)) (kid_names ks) → IsKids (heap_of t) (IsLive (heap_of t)) ks
+    kids (OfNames ps) e all = all
+    kids (Inlined i ks) e all = absurd (true≢false (sym e))
 
-pub empty_low : (s : State) (p : Part) → IsLive (heap_of no_tables) p → fits s (tree_of (heap_of no_tables) p) ≡ true
-empty_low s p live = absurd (true≢false (sym live ∙ ap is_some (nothing_held p)))
+-- ---- live parts
+
+within : (es : List (Sketch Part)) (i : ℕ) (s : Sketch Part) → slice_get es i ≡ Some s → i < length es
+within [] i s e = absurd (none-some s e)
+within (x ∷ xs) zero s e = omega arith
+within (x ∷ xs) (suc i) s e = let r = within xs i s e in omega arith
+
+pub live_within : (t : Tables) (p : Part) → IsLive (heap_of t) p → index_in p < length (table_of t (sort_in p))
+live_within t p live =
+    let x = node_of (heap_of t) p live in
+    within (table_of t (sort_in p)) (index_in p) x.0 (only_some (sort_in p) (slice_get (table_of t (sort_in p)) (index_in p)) x.0 (sym (heap_in t p) ∙ x.1)).0
+
+pub owned_term : (o : Option PartSort) → is_owned owns_nodes o ≡ true → is_term o ≡ true
+owned_term None e = absurd (true≢false (sym e))
+owned_term (Some g) e = e
+
+pub term_owned : (o : Option PartSort) → is_term o ≡ true → is_owned owns_nodes o ≡ true
+term_owned None e = absurd (true≢false (sym e))
+term_owned (Some g) e = e
+
+-- where a part stands in its table
+module _ (t : Tables) (p : Part) (live : IsLive (heap_of t) p) (es : List (Sketch Part)) (i : ℕ) (table : table_of t (sort_in p) ≡ es) (index : index_in p ≡ i) where
+  pub entry_within : i < length es
+  entry_within = subst (λ n. n < length es) index (subst (λ xs. index_in p < length xs) table (live_within t p live))
+
+  -- of the part's sort
+  pub entry_sort : (l : Layer Part) → ((c : CachedInfo) × (slice_get es i ≡ Some (sketch l c))) → layer_sort l ≡ Some (sort_in p)
+  entry_sort l w =
+      let x = node_of (heap_of t) p live in
+      let there = only_some (sort_in p) (slice_get (table_of t (sort_in p)) (index_in p)) x.0 (sym (heap_in t p) ∙ x.1) in
+      let same = same_Some x.0 (sketch l w.0) (sym there.0 ∙ (λ j. slice_get (table j) (index j)) ∙ w.1) in
+      ap (λ (s : Sketch Part). layer_sort s.layer) (sym same) ∙ there.1
+
+  -- the node of a term fits its row
+  pub entry_row : AllFit (heap_of t) → is_term (Some (sort_in p)) ≡ true → (l : Layer Part) → ((c : CachedInfo) × (slice_get es i ≡ Some (sketch l c))) → (is_term (layer_sort l) ≡ true) × (fits_row l ≡ true)
+  entry_row fit term l w =
+      let x = node_of (heap_of t) p live in
+      let there = only_some (sort_in p) (slice_get (table_of t (sort_in p)) (index_in p)) x.0 (sym (heap_in t p) ∙ x.1) in
+      let same = same_Some x.0 (sketch l w.0) (sym there.0 ∙ (λ j. slice_get (table j) (index j)) ∙ w.1) in
+      let layers : x.0.layer ≡ l = ap (λ (s : Sketch Part). s.layer) same in
+      let sort : layer_sort l ≡ Some (sort_in p) = ap layer_sort (sym layers) ∙ there.1 in
+      let own : is_term (layer_sort l) ≡ true = ap is_term sort ∙ term in
+      (own, sym (fits_term (layer_sort l) l own) ∙ ap layer_fits (sym layers) ∙ fit p x.0 x.1)
+
+  -- and its node
+  pub entry_node : IsSound (heap_of t) → (l : Layer Part) → ((c : CachedInfo) × (slice_get es i ≡ Some (sketch l c))) → HasNode (heap_of t) p l
+  entry_node sound l w =
+      let x = node_of (heap_of t) p live in
+      let there = only_some (sort_in p) (slice_get (table_of t (sort_in p)) (index_in p)) x.0 (sym (heap_in t p) ∙ x.1) in
+      let same = same_Some x.0 (sketch l w.0) (sym there.0 ∙ (λ j. slice_get (table j) (index j)) ∙ w.1) in
+      subst (λ (s : Sketch Part). HasNode (heap_of t) p s.layer) same (has_node (heap_of t) sound p x.0 x.1)
+
+-- what stands at the place of a part, as a sketch, is its node where it is of the part's sort
+module _ {X : Type 0} (seen : X → Sketch Part) (t : Tables) (p : Part) (o : Option X) (is : option_map seen o ≡ slice_get (table_of t (sort_in p)) (index_in p)) where
+  entry_heap : heap_of t p ≡ only (sort_in p) (option_map seen o)
+  entry_heap = heap_in t p ∙ ap (only (sort_in p)) (sym is)
+
+  pub entry_some : IsLive (heap_of t) p → IsSome o
+  entry_some live = by o refl
+    where
+      by : (u : Option X) → o ≡ u → IsSome u
+      by (Some x) e = refl
+      by None e = absurd (true≢false (sym live ∙ ap is_some (entry_heap ∙ ap (λ u. only (sort_in p) (option_map seen u)) e)))
+
+  pub entry_at : (x : X) → o ≡ Some x → IsLive (heap_of t) p → (heap_of t p ≡ Some (seen x)) × (layer_sort (seen x).layer ≡ Some (sort_in p))
+  entry_at x e live =
+      let n = node_of (heap_of t) p live in
+      let there = only_some (sort_in p) (Some (seen x)) n.0 (sym (entry_heap ∙ ap (λ u. only (sort_in p) (option_map seen u)) e) ∙ n.1) in
+      (n.1 ∙ sym there.0, ap (λ (s : Sketch Part). layer_sort s.layer) (same_Some _ _ there.0) ∙ there.1)
+
+  pub entry_live : (x : X) → o ≡ Some x → (b : Bool) → b ≡ is_of (sort_in p) (layer_sort (seen x).layer) → IsTrue b ↔ IsLive (heap_of t) p
+  entry_live x e b same =
+      let all : is_some (heap_of t p) ≡ b = ap is_some (entry_heap ∙ ap (λ u. only (sort_in p) (option_map seen u)) e) ∙ some_if (is_of (sort_in p) (layer_sort (seen x).layer)) ∙ sym same in
+      (λ yes. all ∙ yes, λ live. sym all ∙ live)
+    where
+      some_if : (c : Bool) → is_some (if c then Some (seen x) else None) ≡ c
+      some_if true = refl
+      some_if false = refl
+
+-- a list of variables has these
+pub kinds_in_list : (t : Tables) (v : BoundVarKinds) (vs : List BoundVarKind) → ((c : CachedInfo) × (slice_get t.variable_lists v.index ≡ Some (sketch (variables_layer vs) c))) → kinds_at (heap_of t) (part.BoundVarKinds v) ≡ map variable_seen vs
+kinds_in_list t v vs w =
+    let at = heap_in t (part.BoundVarKinds v) ∙ ap (only sort.BoundVarKinds) w.1 ∙ only_here sort.BoundVarKinds (sketch (variables_layer vs) w.0) refl in
+    ap (λ o. option_map_or (λ (s : Sketch Part). kinds_among s.layer.label.fields) o []) at ∙ kinds_of_fields vs

@@ -1,49 +1,46 @@
 -- What stands behind a text while a part is spelled, and what remains to be spelled.
-use Rattle.std.proofs.Common.{◌≡◌, ◌∙◌, sym, ap, refl, subst, ℕ, zero, suc, ◌+◌, ◌-◌, ◌*◌, ◌<◌, ◌≤◌, arith, Bool, true, false, nat_eq, List, [], ◌∷◌, ◌++◌, length, get_or, take, drop, map, slice_get, codes, Option, None, Some, Result, Ok, Err, OnOk, OnErr}
-use Rattle.std.proofs.Math.Seq.{take-append_seam, take-length}
+use Rattle.std.proofs.Common.{◌≡◌, ◌∙◌, sym, ap, refl, subst, ℕ, zero, suc, ◌+◌, ◌*◌, ◌<◌, ◌≤◌, arith, Bool, true, false, true≢false, nat_eq, List, [], ◌∷◌, ◌++◌, length, get_or, take, drop, map, slice_get, codes, Option, None, Some, Result, Ok, Err, OnOk, OnErr}
+use Rattle.std.proofs.Math.Seq.{take-append_seam}
 use Rattle.std.proofs.lemmas.Bool.Decides.{nat_tests}
 use Rattle.std.proofs.lemmas.List.{append_assoc, append-nil, drop_more, length-take, take-append-drop, take-append-le}
-use Rattle.std.proofs.lemmas.Option.{slice_get_within, slice_get-get_or, get_or_from_slice_get, slice_get-map}
+use Rattle.std.proofs.lemmas.Option.{none-some, same_Some, slice_get_within, slice_get-get_or, get_or_from_slice_get, slice_get-map}
 use Rattle.std.specs.Option.{option_map}
 use Rattle.ir_core.specs.declared.errors.TermError.{TermError}
 use Rattle.ir_core.specs.declared.errors.TermError.TheVariants as error
 use Rattle.ir_core.specs.declared.ids.SolverDefId.{SolverDefId}
-use Rattle.ir_core.specs.declared.handles.Ty.{Ty}
+use Rattle.ir_core.specs.declared.handles.BoundVarKinds.{BoundVarKinds}
 use Rattle.ir_core.specs.declared.handles.Part.{Part}
 use Rattle.ir_core.specs.declared.handles.Part.TheVariants as part
-use Rattle.ir_core.specs.declared.kinds.TyKind.{TyKind}
-use Rattle.ir_core.specs.declared.kinds.ConstKind.{ConstKind}
-use Rattle.ir_core.specs.declared.kinds.RegionKind.{RegionKind}
+use Rattle.ir_core.specs.declared.handles.PartSort.{PartSort}
 use Rattle.ir_core.specs.declared.variables.BoundVarKind.{BoundVarKind}
 use Rattle.ir_laws.specs.declared.labels.Part.{Part as LabelPart}
 use Rattle.ir_laws.specs.declared.labels.Part.TheVariants.{Fixed, ForGroup, AField, AKid}
 use Rattle.ir_laws.specs.declared.labels.FixedWord.{FixedWord}
 use Rattle.ir_laws.specs.declared.labels.FieldForm.{FieldForm}
 use Rattle.ir_laws.specs.declared.labels.KidForm.{KidForm}
-use Rattle.ir_laws.specs.Tree.{Text, Label, Term}
+use Rattle.ir_laws.specs.declared.labels.Sort.TheVariants.{OfList}
+use Rattle.ir_laws.specs.Tree.{Text, Term}
 use Rattle.ir_laws.specs.Keyword.{fixed_text}
 use Rattle.ir_laws.specs.Label.{row}
 use Rattle.ir_laws.specs.Spelling.{bind_text, bind_texts, field_text, in_brackets, kind_text, label_text, part_texts, spaced, spell, spell_each, word_text}
-use Rattle.ir_laws.specs.Counts.{sort_of, sort_of_label}
+use Rattle.ir_laws.specs.Counts.{sort_of_label}
 use Rattle.ir_laws.specs.Same.{same_sort}
-use Rattle.ir_laws.specs.declared.labels.Sort.{Sort}
-use Rattle.ir_laws.specs.declared.labels.Sort.TheVariants.{OfType, OfRegion, OfConstant, OfList}
-use Rattle.ir_laws.specs.Heap.{Heap, Layer, HasNode, Each, IsLive, IsSound, cached_height, forest, kinds_among, kinds_at, largest, names_in, shape_over, tree_of, with_binder}
-use Rattle.ir_laws.proofs.HeapLemmas.{Each-both, Each-largest, held_node, node_of, tree_of-node, kinds_at_node}
+use Rattle.ir_laws.specs.Heap.{Heap, OfNames, Layer, HasNode, Each, IsLive, IsSound, cached_height, forest, kid_heights, kid_names, kid_trees, kinds_among, kinds_at, largest, names_in, shape_over, tree_of, with_binder}
+use Rattle.ir_laws.proofs.HeapLemmas.{Each-largest, held_node, kinds_at_node}
+use Rattle.ir_laws.proofs.PlantLemmas.{spell-plant}
+use Rattle.ir_table.specs.declared.nodes.Node.{Node}
+use Rattle.ir_table.specs.declared.layers.Layer.{Layer as LayerRead}
+use Rattle.ir_table.specs.declared.layers.Layer.TheVariants as layer
+use Rattle.ir_table.specs.declared.layers.List.{List as ListRead}
+use Rattle.ir_table.specs.declared.layers.List.TheVariants as list
+use Rattle.ir_table.specs.declared.store.EmptyList.{EmptyList}
+use Rattle.ir_table.specs.declared.store.EmptyList.TheVariants as empty
+use Rattle.ir_table.specs.Fits.{is_term, layer_sort}
+use Rattle.ir_table.specs.Layers.{layer_seen, list_kids, list_seen}
+use Rattle.ir_table.specs.Nodes.{binder_in, empty_layer, kids_in, node_layer, variable_seen, variables_layer}
+use Rattle.ir_table.specs.Spelled.{Begins, IsNoList, after, after_each, kid_texts, list_text, node_text, places_text}
+use Rattle.ir_table.proofs.HandleLemmas.{not_list, sort_back}
 use Rattle.ir_table.proofs.NodeLemmas.{kinds_of_fields}
-use Rattle.ir_laws.proofs.PlantLemmas.{sort-plant, spell-plant}
-use Rattle.ir_core.specs.declared.handles.BoundVarKinds.{BoundVarKinds}
-use Rattle.ir_core.specs.declared.handles.Const.{Const}
-use Rattle.ir_core.specs.declared.handles.Region.{Region}
-use Rattle.ir_core.specs.declared.handles.Tys.{Tys}
-use Rattle.ir_table.specs.declared.store.Tables.{Tables}
-use Rattle.ir_table.specs.Fits.{part_sort}
-use Rattle.ir_table.proofs.CallerLemmas.{live_sort}
-use Rattle.ir_table.proofs.KindLemmas.{ty_sort, const_sort, region_sort}
-use Rattle.ir_table.proofs.PartLemmas.{no_kids}
-use Rattle.ir_table.specs.declared.parts.Node.{Node}
-use Rattle.ir_table.specs.Kinds.{heap_of, field_seen, fields_of, kids_of, node_layer, ty_layer, const_layer, region_layer, tys_kids, tys_layer, variable_seen, variables_layer}
-use Rattle.ir_table.specs.Spelled.{Begins, IsNoList, after_each, kid_texts, list_text, node_text, places_text}
 
 -- ---- what was there comes first still
 
@@ -102,69 +99,112 @@ word_text-places : (w : Text) (parts : List LabelPart) (fields : List Text) (bin
 word_text-places w [] fields bind kids e = absurd cc
 word_text-places w (p ∷ ps) fields bind kids e = refl
 
+-- the kids of what a part is read as are names
+list_names : (l : ListRead) → (list_seen l).kids ≡ OfNames (list_kids l)
+list_names (list.Types ts) = refl
+list_names (list.Variables vs) = refl
+list_names (list.Variances vs) = refl
+list_names (list.Empty k) = refl
+
+pub layer_names : (l : LayerRead) → (layer_seen l).kids ≡ OfNames (kid_names (layer_seen l).kids)
+layer_names (layer.Node n) = refl
+layer_names (layer.List l) = list_names l
+
+-- the labels of lists
+empty_label : (k : EmptyList) → same_sort (sort_of_label (empty_layer k).label) OfList ≡ true
+empty_label empty.GenericArgs = refl
+empty_label empty.PatList = refl
+empty_label empty.BoundExistentialPredicates = refl
+empty_label empty.Clauses = refl
+empty_label empty.RegionAssumptions = refl
+
+list_label : (l : ListRead) → same_sort (sort_of_label (list_seen l).label) OfList ≡ true
+list_label (list.Types ts) = refl
+list_label (list.Variables vs) = refl
+list_label (list.Variances vs) = refl
+list_label (list.Empty k) = empty_label k
+
+-- a term's label is no list's
+pub no_list : (l : Layer Part) → is_term (layer_sort l) ≡ true → IsNoList l.label
+unfolding IsNoList
+no_list l term = by (layer_sort l) refl term
+  where
+    by : (o : Option PartSort) → layer_sort l ≡ o → is_term o ≡ true → same_sort (sort_of_label l.label) OfList ≡ false
+    by None is e = absurd (true≢false (sym e))
+    by (Some g) is e = ap (λ s. same_sort s OfList) (sort_back (sort_of_label l.label) l.label.word g is) ∙ not_list g e
+
 module _ (name : SolverDefId → Text) (h : Heap Part) where
-  -- the code's node is spelled as the tree of its part
-  pub node_spelled : (p : Part) (l : Layer Part) → HasNode h p l → (m : Layer Part) → m ≡ l → node_text name h m ≡ spell name (tree_of h p)
-  unfolding node_text
-  node_spelled p l has m same =
-      ap (node_text name h) same
-      ∙ ap (label_text name l.label (shape_over h l).bind) (sym (spell_each-forest name (tree_of h) l.kids))
-      ∙ sym (spell-plant name (shape_over h l) (forest (tree_of h) l.kids))
+  -- what is read is spelled as the tree of its part
+  spelled : (p : Part) (l : Layer Part) (ps : List Part) → l.kids ≡ OfNames ps → HasNode h p l → label_text name l.label (shape_over h l).bind (kid_texts name h ps) ≡ spell name (tree_of h p)
+  spelled p l ps names has =
+      ap (label_text name l.label (shape_over h l).bind) (sym (ap (λ ks. spell_each name (kid_trees h (tree_of h) ks)) names ∙ spell_each-forest name (tree_of h) ps))
+      ∙ sym (spell-plant name (shape_over h l) (kid_trees h (tree_of h) l.kids))
       ∙ ap (spell name) (sym has.tree)
 
-  pub list_spelled : (p : Part) (tys : List Ty) → HasNode h p (tys_layer tys) → list_text name h tys ≡ spell name (tree_of h p)
-  unfolding node_text list_text
-  list_spelled p tys has = node_spelled p (tys_layer tys) has (tys_layer tys) refl
+  pub node_spelled : (p : Part) (n : Node) → HasNode h p (node_layer n) → node_text name h n ≡ spell name (tree_of h p)
+  unfolding node_text
+  node_spelled p n has = spelled p (node_layer n) (kids_in n.content) refl has
+
+  pub list_spelled : (p : Part) (l : ListRead) → HasNode h p (list_seen l) → list_text name h l ≡ spell name (tree_of h p)
+  unfolding list_text
+  list_spelled p l has =
+      let texts : List Text = kid_texts name h (list_kids l) in
+      let label = (list_seen l).label in
+      let F : Bool → Text = λ b. elim b [ true ↦ in_brackets texts | false ↦ word_text (row label.word).text (row label.word).parts (map (field_text name) label.fields) (bind_texts name (shape_over h (list_seen l)).bind) texts ] in
+      sym (ap F (list_label l)) ∙ spelled p (list_seen l) (list_kids l) (list_names l) has
 
   module _ (n : Node) (no_list : IsNoList (node_layer n).label) where
-    abbrev said : Text → List LabelPart → Text
-    said w ps = word_text w ps (map (field_text name) (map field_seen (fields_of n.fields))) (bind_texts name (shape_over h (node_layer n)).bind) (kid_texts name h (kids_of n.kids))
+    abbrev own_fields : List Text
+    own_fields = map (field_text name) (node_layer n).label.fields
 
-    word_of_node : node_text name h (node_layer n) ≡ said (row n.word).text (row n.word).parts
+    abbrev own_group : Option Text
+    own_group = bind_texts name (shape_over h (node_layer n)).bind
+
+    abbrev own_kids : List Text
+    own_kids = kid_texts name h (kids_in n.content)
+
+    word_of_node : node_text name h n ≡ word_text (row n.word).text (row n.word).parts own_fields own_group own_kids
     unfolding node_text IsNoList
     word_of_node =
-        let F : Bool → Text = λ b. elim b [ true ↦ in_brackets (kid_texts name h (kids_of n.kids)) | false ↦ said (row n.word).text (row n.word).parts ] in ap F no_list
+        let F : Bool → Text = λ b. elim b [ true ↦ in_brackets own_kids | false ↦ word_text (row n.word).text (row n.word).parts own_fields own_group own_kids ] in ap F no_list
 
     module _ (word : Text) (parts : List LabelPart) (text : word ≡ (row n.word).text) (places : parts ≡ (row n.word).parts) where
-      by_words : node_text name h (node_layer n) ≡ said word parts
-      by_words = word_of_node ∙ (λ i. said (sym text i) (sym places i))
+      by_words : node_text name h n ≡ word_text word parts own_fields own_group own_kids
+      by_words = word_of_node ∙ (λ i. word_text (sym text i) (sym places i) own_fields own_group own_kids)
 
-      pub bare_node : nat_eq (length parts) 0 ≡ true → word ≡ node_text name h (node_layer n)
-      bare_node empty = sym (by_words ∙ word_text-bare word parts _ _ _ empty)
+      pub bare_node : nat_eq (length parts) 0 ≡ true → word ≡ node_text name h n
+      bare_node empty = sym (by_words ∙ word_text-bare word parts own_fields own_group own_kids empty)
 
       pub whole_node : (out begun placed : Text) → nat_eq (length parts) 0 ≡ false → begun ≡ out ++ (codes "(" ++ word) → placed ≡ begun ++ places_text name h parts n
-          → placed ++ codes ")" ≡ out ++ node_text name h (node_layer n)
+          → placed ++ codes ")" ≡ out ++ node_text name h n
       unfolding places_text
       whole_node out begun placed full a b =
           ap (λ x. x ++ codes ")") (b ∙ ap (λ x. x ++ places_text name h parts n) a)
-          ∙ in_brackets-after_each out word (part_texts parts (map (field_text name) (map field_seen (fields_of n.fields))) (bind_texts name (shape_over h (node_layer n)).bind) (kid_texts name h (kids_of n.kids)))
-          ∙ ap (λ x. out ++ x) (sym (by_words ∙ word_text-places word parts _ _ _ full))
+          ∙ in_brackets-after_each out word (part_texts parts own_fields own_group own_kids)
+          ∙ ap (λ x. out ++ x) (sym (by_words ∙ word_text-places word parts own_fields own_group own_kids full))
 
--- its kids are lower, as the measure counts
-pub node_lower : (h : Heap Part) (p q : Part) → p ≡ q → (l : Layer Part) → HasNode h q l → (m : Layer Part) → m ≡ l → 3 * largest (cached_height h) m.kids + 2 < 3 * cached_height h p
-node_lower h p q same l has m e =
-    let here = ap (cached_height h) same in
+-- the kids of a part are lower than it, as the measures count
+pub kids_lower : (h : Heap Part) (p : Part) (l : LayerRead) → HasNode h p (layer_seen l) → 3 * largest (cached_height h) (kid_names (layer_seen l).kids) + 2 < 3 * cached_height h p
+kids_lower h p l has =
     let height = has.height in
-    let kids = ap (λ (n : Layer Part). largest (cached_height h) n.kids) e in omega arith
+    let kids : kid_heights (cached_height h) (layer_seen l).kids ≡ largest (cached_height h) (kid_names (layer_seen l).kids) = ap (kid_heights (cached_height h)) (layer_names l) in omega arith
 
--- the kinds of types, of regions and of constants are no lists
-no_list : (s : Sort) → same_sort s OfList ≡ false → (l : Label SolverDefId) → sort_of_label l ≡ s → IsNoList l
-unfolding IsNoList
-no_list s other l e = ap (λ x. same_sort x OfList) e ∙ other
+-- what holds of each holds of the one at the index
+each_got : {P : Type 0} (F : P → Type 0) (ps : List P) (i : ℕ) (p : P) → slice_get ps i ≡ Some p → Each F ps → F p
+each_got F [] i p e all = absurd (none-some p e)
+each_got F (q ∷ ps) zero p e all = subst F (same_Some q p e) all.0
+each_got F (q ∷ ps) (suc i) p e all = each_got F ps i p e all.1
 
-pub ty_no_list : (k : TyKind) → IsNoList (ty_layer k).label
-ty_no_list k = no_list OfType refl (ty_layer k).label (ty_sort k)
-
-pub region_no_list : (k : RegionKind) → IsNoList (region_layer k).label
-region_no_list k = no_list OfRegion refl (region_layer k).label (region_sort k)
-
-pub const_no_list : (k : ConstKind) → IsNoList (const_layer k).label
-const_no_list k = no_list OfConstant refl (const_layer k).label (const_sort k)
+-- a kid is live, and lower than the highest, as the measures count
+pub kid_got : (h : Heap Part) (ps : List Part) (i : ℕ) (p : Part) → slice_get ps i ≡ Some p → Each (IsLive h) ps → IsLive h p × (3 * cached_height h p < 3 * largest (cached_height h) ps + 1)
+kid_got h ps i p at live =
+    let low = each_got (λ q. cached_height h q ≤ largest (cached_height h) ps) ps i p at (Each-largest (cached_height h) (largest (cached_height h) ps) ps (omega arith)) in
+    (each_got (IsLive h) ps i p at live, omega arith)
 
 -- ---- the places of a node
 
 -- the item at the index, and those behind it
-drop_at : {X : Type 0} (xs : List X) (i : ℕ) (x : X) → slice_get xs i ≡ Some x → drop i xs ≡ x ∷ drop (i + 1) xs
+pub drop_at : {X : Type 0} (xs : List X) (i : ℕ) (x : X) → slice_get xs i ≡ Some x → drop i xs ≡ x ∷ drop (i + 1) xs
 drop_at xs i x e = drop_more xs i x (slice_get_within xs i x e) ∙ ap (λ y. y ∷ drop (i + 1) xs) (get_or_from_slice_get xs i x x e)
 
 drop_at_map : {X Y : Type 0} (f : X → Y) (xs : List X) (i : ℕ) (x : X) → slice_get xs i ≡ Some x → drop i (map f xs) ≡ f x ∷ drop (i + 1) (map f xs)
@@ -172,6 +212,17 @@ drop_at_map f xs i x e = drop_at (map f xs) i (f x) (slice_get-map f xs i ∙ ap
 
 drop_at_maps : {X Y Z : Type 0} (f : Y → Z) (g : X → Y) (xs : List X) (i : ℕ) (x : X) → slice_get xs i ≡ Some x → drop i (map f (map g xs)) ≡ f (g x) ∷ drop (i + 1) (map f (map g xs))
 drop_at_maps f g xs i x e = drop_at_map f (map g xs) i (g x) (slice_get-map g xs i ∙ ap (option_map g) e)
+
+pub no_item : {X : Type 0} (o : Option X) → ((x : X) → o ≡ Some x → ⊥) → o ≡ None
+no_item None none = refl
+no_item (Some x) none = absurd (none x refl)
+
+-- past the last item none remains
+drop_past : {X : Type 0} (xs : List X) (i : ℕ) → slice_get xs i ≡ None → drop i xs ≡ []
+drop_past [] zero e = refl
+drop_past [] (suc i) e = refl
+drop_past (x ∷ xs) zero e = absurd (none-some x (sym e))
+drop_past (x ∷ xs) (suc i) e = drop_past xs i e
 
 -- one text more, of what remained
 one_more : (out new said text whole : Text) (ts us : List Text) → said ≡ text → new ≡ out ++ (codes " " ++ said) → us ≡ text ∷ ts → out ++ after_each us ≡ whole → new ++ after_each ts ≡ whole
@@ -217,6 +268,13 @@ module _ (parts : List LabelPart) (i : ℕ) (d : LabelPart) (within : i < length
     field_step f g xs j x bind kids form at got put e =
         one_more out new (f (g x)) (f (g x)) whole _ _ refl put (λ k. part_texts (at_place (AField form) at k) (drop_at_maps f g xs j x (sym got) k) bind kids) e
 
+    pub no_field : {X Y : Type 0} (f : Y → Text) (g : X → Y) (xs : List X) (j : ℕ) (o : Option X) (bind : Option Text) (kids : List Text) (form : FieldForm)
+        → get_or parts i d ≡ AField form → o ≡ slice_get xs j → ((x : X) → o ≡ Some x → ⊥) → new ≡ out
+        → out ++ after_each (part_texts (drop i parts) (drop j (map f (map g xs))) bind kids) ≡ whole → new ≡ whole
+    no_field f g xs j o bind kids form at got none same e =
+        let gone = slice_get-map f (map g xs) j ∙ ap (option_map f) (slice_get-map g xs j ∙ ap (option_map g) (sym got ∙ no_item o none)) in
+        same ∙ sym (append-nil out) ∙ (λ k. out ++ after_each (part_texts (sym (at_place (AField form) at) k) (sym (drop_past (map f (map g xs)) j gone) k) bind kids)) ∙ e
+
     pub kid_step : {X : Type 0} (f : X → Text) (xs : List X) (j : ℕ) (x : X) (fields : List Text) (bind : Option Text) (form : KidForm) (mid : Text)
         → get_or parts i d ≡ AKid form → Some x ≡ slice_get xs j → mid ≡ out ++ codes " " → new ≡ mid ++ f x
         → out ++ after_each (part_texts (drop i parts) fields bind (drop j (map f xs))) ≡ whole → new ++ after_each (part_texts (drop (i + 1) parts) fields bind (drop (j + 1) (map f xs))) ≡ whole
@@ -228,26 +286,26 @@ module _ (parts : List LabelPart) (i : ℕ) (d : LabelPart) (within : i < length
 -- a list of variables has these
 pub kinds_at-variables : (h : Heap Part) → IsSound h → (p : Part) (vs : List BoundVarKind) → IsLive h p → HasNode h p (variables_layer vs) → kinds_at h p ≡ map variable_seen vs
 kinds_at-variables h sound p vs live has =
-    let x = held_node h sound (variables_layer vs) tt refl p live has.tree in
+    let x = held_node h sound (variables_layer vs) (record { binder = refl; count = refl; kids = tt }) p live has.tree in
     kinds_at_node h p x.0 x.1 ∙ ap (λ (l : Layer Part). kinds_among l.label.fields) x.2 ∙ kinds_of_fields vs
 
-module _ (name : SolverDefId → Text) (h : Heap Part) (n : Node) where
+-- what binds is live
+pub binder_live : (h : Heap Part) (l : Layer Part) (p : Part) → l.binder ≡ Some p → Each (IsLive h) (names_in l) → IsLive h p
+binder_live h l p is live = (subst (λ b. Each (IsLive h) (with_binder b (kid_names l.kids))) is live).0
+
+module _ (name : SolverDefId → Text) (h : Heap Part) (n : Node) (o : Option BoundVarKinds) (binder : o ≡ binder_in n.content) where
   abbrev bind_of : Option BoundVarKinds → Option Text
   bind_of b = bind_texts name (option_map (kinds_at h) (option_map part.BoundVarKinds b))
 
-  pub bind_none : ((v : BoundVarKinds) → n.binder ≡ Some v → ⊥) → bind_texts name (shape_over h (node_layer n)).bind ≡ None
-  bind_none none = by n.binder none
-    where
-      by : (b : Option BoundVarKinds) → ((v : BoundVarKinds) → b ≡ Some v → ⊥) → bind_of b ≡ None
-      by None none = refl
-      by (Some v) none = absurd (none v refl)
+  pub bind_none : ((v : BoundVarKinds) → o ≡ Some v → ⊥) → bind_texts name (shape_over h (node_layer n)).bind ≡ None
+  bind_none none = ap bind_of (sym binder ∙ no_item o none)
 
-  bind_live : (v : BoundVarKinds) → n.binder ≡ Some v → Each (IsLive h) (names_in (node_layer n)) → IsLive h (part.BoundVarKinds v)
-  bind_live v e live = (subst (λ b. Each (IsLive h) (with_binder (option_map part.BoundVarKinds b) (kids_of n.kids))) e live).0
+  module _ (v : BoundVarKinds) (is : o ≡ Some v) (live : Each (IsLive h) (names_in (node_layer n))) where
+    group_live : IsLive h (part.BoundVarKinds v)
+    group_live = binder_live h (node_layer n) (part.BoundVarKinds v) (ap (option_map part.BoundVarKinds) (sym binder ∙ is)) live
 
-  pub bind_some : IsSound h → (v : BoundVarKinds) (vs : List BoundVarKind) → n.binder ≡ Some v → Each (IsLive h) (names_in (node_layer n)) → HasNode h (part.BoundVarKinds v) (variables_layer vs)
-      → bind_texts name (shape_over h (node_layer n)).bind ≡ Some (bind_text name (map variable_seen vs))
-  bind_some sound v vs e live has = ap bind_of e ∙ ap (λ ks. Some (bind_text name ks)) (kinds_at-variables h sound (part.BoundVarKinds v) vs (bind_live v e live) has)
+    pub bind_some : IsSound h → (vs : List BoundVarKind) → HasNode h (part.BoundVarKinds v) (variables_layer vs) → bind_texts name (shape_over h (node_layer n)).bind ≡ Some (bind_text name (map variable_seen vs))
+    bind_some sound vs has = ap bind_of (sym binder ∙ is) ∙ ap (λ ks. Some (bind_text name ks)) (kinds_at-variables h sound (part.BoundVarKinds v) vs group_live has)
 
 -- the group is begun, and its variables remain
 pub group_begun : (name : SolverDefId → Text) (out new : Text) (vs : List BoundVarKind) → new ≡ out ++ codes " (for"
@@ -260,58 +318,33 @@ group_begun name out new vs e =
 
 -- ---- lists
 
-pub each_item : {P X : Type 0} (name : X → P) (F : P → Type 0) (xs : List X) (i : ℕ) (d : X) → i < length xs → Each F (map name xs) → F (name (get_or xs i d))
-each_item name F [] i d within h = absurd (omega arith)
-each_item name F (x ∷ xs) zero d within h = h.0
-each_item name F (x ∷ xs) (suc i) d within h = each_item name F xs i d (omega arith) h.1
+spaced-after : (ts : List Text) → spaced ts ≡ after [] ts
+spaced-after [] = refl
+spaced-after (t ∷ ts) = spaced-after_each t ts
 
--- the first item and the others, as a pattern takes them
-split_first : {X : Type 0} (xs : List X) (d : X) → 1 ≤ length xs → xs ≡ get_or xs 0 d ∷ take (length xs - 1) (drop 1 xs)
-split_first [] d full = absurd (omega arith)
-split_first (x ∷ xs) d full = let e : suc (length xs) - 1 ≡ length xs = omega arith in ap (λ ys. x ∷ ys) (sym (ap (λ n. take n xs) e ∙ take-length xs))
+after_space : (ts : List Text) → after (codes " ") ts ≡ after_each ts
+after_space [] = refl
+after_space (t ∷ ts) = refl
 
--- each type behind the first is live, and no higher than the highest
-pub rest_kid : (h : Heap Part) (tys : List Ty) (d : Ty) → 1 ≤ length tys → Each (IsLive h) (tys_kids tys) → (i : ℕ) → i < length (take (length tys - 1) (drop 1 tys))
-    → IsLive h (part.Ty (get_or (take (length tys - 1) (drop 1 tys)) i d)) × (cached_height h (part.Ty (get_or (take (length tys - 1) (drop 1 tys)) i d)) ≤ largest (cached_height h) (tys_kids tys))
-rest_kid h tys d full live i within =
-    let F : Part → Type 0 = λ k. IsLive h k × (cached_height h k ≤ largest (cached_height h) (tys_kids tys)) in
-    let all = Each-both (IsLive h) (λ k. cached_height h k ≤ largest (cached_height h) (tys_kids tys)) (tys_kids tys) live (Each-largest (cached_height h) (largest (cached_height h) (tys_kids tys)) (tys_kids tys) (omega arith)) in
-    each_item part.Ty F (take (length tys - 1) (drop 1 tys)) i d within (subst (λ ts. Each F (tys_kids ts)) (split_first tys d full) all).1
+-- the list is begun, and its kids remain
+pub list_begun : (name : SolverDefId → Text) (h : Heap Part) (l : ListRead) (out new : Text) → new ≡ out ++ codes "(" → (new ++ after [] (kid_texts name h (list_kids l))) ++ codes ")" ≡ out ++ list_text name h l
+unfolding list_text
+list_begun name h l out new e =
+    let ts : List Text = kid_texts name h (list_kids l) in
+    ap (λ x. (x ++ after [] ts) ++ codes ")") e ∙ grouped out (after [] ts) ∙ ap (λ x. out ++ (codes "(" ++ x ++ codes ")")) (sym (spaced-after ts))
+  where
+    grouped : (a b : Text) → ((a ++ codes "(") ++ b) ++ codes ")" ≡ a ++ (codes "(" ++ b ++ codes ")")
+    grouped a b = simp append_assoc
 
-module _ (name : SolverDefId → Text) (h : Heap Part) where
-  pub empty_list : (tys : List Ty) → length tys < 1 → codes "()" ≡ list_text name h tys
-  unfolding list_text
-  empty_list [] few = refl
-  empty_list (t ∷ ts) few = absurd (omega arith)
-
-  pub list_begun : (out mid new : Text) (tys : List Ty) (d : Ty) → 1 ≤ length tys → mid ≡ out ++ codes "(" → new ≡ mid ++ spell name (tree_of h (part.Ty (get_or tys 0 d)))
-      → (new ++ after_each (kid_texts name h (tys_kids (take (length tys - 1) (drop 1 tys))))) ++ codes ")" ≡ out ++ list_text name h tys
-  unfolding list_text
-  list_begun out mid new tys d full a b =
-      let rest : List Ty = take (length tys - 1) (drop 1 tys) in
-      let text : Text = spell name (tree_of h (part.Ty (get_or tys 0 d))) in
-      ap (λ x. (x ++ after_each (kid_texts name h (tys_kids rest))) ++ codes ")") (b ∙ ap (λ x. x ++ text) a ∙ append_assoc out (codes "(") text)
-      ∙ in_brackets-after_each out text (kid_texts name h (tys_kids rest))
-      ∙ ap (λ ts. out ++ list_text name h ts) (sym (split_first tys d full))
-
--- a list that is none of types has no kids to be spelled
-module _ (name : SolverDefId → Text) (t : Tables) (sound : IsSound (heap_of t)) where
-  listed : (p : Part) → ((h : Ty) → p ≡ part.Ty h → ⊥) → ((h : Const) → p ≡ part.Const h → ⊥) → ((h : Region) → p ≡ part.Region h → ⊥) → part_sort p ≡ OfList
-  listed (part.Ty h) no_ty no_const no_region = absurd (no_ty h refl)
-  listed (part.Const h) no_ty no_const no_region = absurd (no_const h refl)
-  listed (part.Region h) no_ty no_const no_region = absurd (no_region h refl)
-  listed _ no_ty no_const no_region = refl
-
-  pub bare_list : (p : Part) → IsLive (heap_of t) p → ((h : Ty) → p ≡ part.Ty h → ⊥) → ((h : Const) → p ≡ part.Const h → ⊥) → ((h : Region) → p ≡ part.Region h → ⊥) → ((h : Tys) → p ≡ part.Tys h → ⊥)
-      → codes "()" ≡ spell name (tree_of (heap_of t) p)
-  bare_list p live no_ty no_const no_region no_tys =
-      let h : Heap Part = heap_of t in
-      let x = node_of h p live in
-      let l : Layer Part = x.0.layer in
-      let tree = tree_of-node h sound p x.0 x.1 in
-      let sort = sym (sort-plant (shape_over h l) (forest (tree_of h) l.kids)) ∙ sym (ap sort_of tree) ∙ live_sort t sound p live ∙ listed p no_ty no_const no_region in
-      let F : Bool → Text = λ b. elim b [ true ↦ in_brackets [] | false ↦ word_text (row l.label.word).text (row l.label.word).parts (map (field_text name) l.label.fields) (bind_texts name (shape_over h l).bind) [] ] in
-      sym (ap F (ap (λ s. same_sort s OfList) sort))
-      ∙ ap (λ ks. label_text name l.label (shape_over h l).bind (spell_each name (forest (tree_of h) ks))) (sym (no_kids t p x.0 x.1 no_ty no_tys))
-      ∙ sym (spell-plant name (shape_over h l) (forest (tree_of h) l.kids))
-      ∙ ap (spell name) (sym tree)
+-- one kid more
+pub list_step : {X : Type 0} (f : X → Text) (xs : List X) (i : ℕ) (x : X) (out mid new space whole : Text) → slice_get xs i ≡ Some x → mid ≡ out ++ space → new ≡ mid ++ f x
+    → (out ++ after space (drop i (map f xs))) ++ codes ")" ≡ whole → (new ++ after (codes " ") (drop (i + 1) (map f xs))) ++ codes ")" ≡ whole
+list_step f xs i x out mid new space whole at a b e =
+    let rest : List Text = drop (i + 1) (map f xs) in
+    ap (λ y. (new ++ y) ++ codes ")") (after_space rest)
+    ∙ ap (λ y. (y ++ after_each rest) ++ codes ")") (b ∙ ap (λ y. y ++ f x) a)
+    ∙ ap (λ y. y ++ codes ")") (grouped out space (f x) (after_each rest) ∙ ap (λ ts. out ++ after space ts) (sym (drop_at_map f xs i x at)))
+    ∙ e
+  where
+    grouped : (a b c d : Text) → ((a ++ b) ++ c) ++ d ≡ a ++ (b ++ c ++ d)
+    grouped a b c d = simp append_assoc

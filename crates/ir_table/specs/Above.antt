@@ -10,35 +10,35 @@ use Rattle.ir_core.specs.declared.variables.BoundVarIndexKind.TheVariants as ind
 use Rattle.ir_laws.specs.Flag.{HAS_CANONICAL_BOUND}
 use Rattle.ir_laws.specs.declared.words.Word.TheVariants.{CanonicalVariable}
 use Rattle.ir_laws.specs.Counts.{flags, outer, bind_size, binder_flag, field_size, own_flags}
-use Rattle.ir_laws.specs.Heap.{Heap, Layer, Sketch, leaf_of, plant, own_size, largest, total, size_cap, cached_height, cached_size, cached_flags, cached_outer, height_above, size_above, shape_over, tree_above}
+use Rattle.ir_laws.specs.Heap.{Heap, OfNames, Layer, Sketch, leaf_of, plant, own_size, largest, total, size_cap, cached_height, cached_size, cached_flags, cached_outer, height_above, size_above, shape_over, tree_above}
 use Rattle.ir_laws.specs.Label.{row}
 use Rattle.ir_laws.specs.Limits.{Limits, capped, first_number}
 use Rattle.ir_core.specs.declared.ids.SolverDefId.{SolverDefId}
 use Rattle.ir_laws.specs.Tree.{Label, Var, Param, Node, End, Term}
 use Rattle.ir_laws.specs.Word.{same_word}
 use Rattle.ir_table.specs.declared.above.Above.{Above}
-use Rattle.ir_table.specs.declared.parts.Kept.{Kept}
+use Rattle.ir_table.specs.declared.nodes.CachedInfo.{CachedInfo}
 use Rattle.ir_table.specs.State.{State, capacity}
 
 -- the index and the number that a term has by itself: a variable's
-abbrev pub index_in : Term → ℕ
-index_in (Var i n k) = i
-index_in (Param p) = 0
-index_in (Node l b ts) = 0
+abbrev pub tree_index : Term → ℕ
+tree_index (Var i n k) = i
+tree_index (Param p) = 0
+tree_index (Node l b ts) = 0
 
-abbrev pub number_in : Term → ℕ
-number_in (Var i n k) = n
-number_in (Param p) = 0
-number_in (Node l b ts) = elim (same_word l.word CanonicalVariable) [ true ↦ first_number l.fields | false ↦ 0 ]
+abbrev pub tree_number : Term → ℕ
+tree_number (Var i n k) = n
+tree_number (Param p) = 0
+tree_number (Node l b ts) = elim (same_word l.word CanonicalVariable) [ true ↦ first_number l.fields | false ↦ 0 ]
 
 -- what is kept beside a node is what is cached of it
-pub record KeptAt (o : Option (Sketch Part)) (c : Kept) : Type 0 where
+pub record KeptAt (o : Option (Sketch Part)) (c : CachedInfo) : Type 0 where
   pub height : c.height ≡ option_map_or (λ s. s.height) o 0
   pub size : c.size ≡ option_map_or (λ s. s.size) o 0
   pub flags : bits_of c.flags ≡ option_map_or (λ s. s.flags) o 0
   pub outer : c.outer_exclusive_binder.0 ≡ option_map_or (λ s. s.outer) o 0
 
-abbrev pub KeptOf : Heap Part → Part → Kept → Type 0
+abbrev pub KeptOf : Heap Part → Part → CachedInfo → Type 0
 KeptOf h p c = KeptAt (h p) c
 
 -- the label's tree without binder and kids
@@ -54,7 +54,7 @@ pub record IsPlain (l : Label SolverDefId) : Type 0 where
 
 -- a variable's or a parameter's label has neither
 abbrev pub IsBare : Layer Part → Type 0
-IsBare l = (leaf_of l.label ≡ None) ⊎ ((l.binder ≡ None) × (l.kids ≡ []))
+IsBare l = (leaf_of l.label ≡ None) ⊎ ((l.binder ≡ None) × (l.kids ≡ OfNames []))
 
 -- what is computed is that of the label alone, before it is counted itself
 pub record IsOwn (l : Label SolverDefId) (a : Above) : Type 0 where
@@ -62,8 +62,8 @@ pub record IsOwn (l : Label SolverDefId) (a : Above) : Type 0 where
   pub size : a.size ≡ own_size (record { label = l; bind = None })
   pub flags : bits_of a.flags ≡ flags (alone l)
   pub outer : a.outer ≡ outer (alone l)
-  pub index : a.index ≡ index_in (alone l)
-  pub number : a.number ≡ number_in (alone l)
+  pub index : a.index ≡ tree_index (alone l)
+  pub number : a.number ≡ tree_number (alone l)
 
 -- the flags of all names together
 abbrev pub flags_of_all : Heap Part → List Part → ℕ
@@ -116,15 +116,15 @@ pub record IsAbove (h : Heap Part) (l : Layer Part) (a : Above) : Type 0 where
   pub size : a.size ≡ size_above h l
   pub flags : bits_of a.flags ≡ flags (tree_above h l)
   pub outer : a.outer ≡ outer (tree_above h l)
-  pub index : a.index ≡ index_in (tree_above h l)
-  pub number : a.number ≡ number_in (tree_above h l)
+  pub index : a.index ≡ tree_index (tree_above h l)
+  pub number : a.number ≡ tree_number (tree_above h l)
 
 -- it passes no limit
 abbrev pub is_low : Limits → Above → Bool
 is_low limits a = nat_le a.height limits.height && (nat_le a.index limits.index && nat_le a.number limits.number)
 
 -- it is what is kept; an outer binder is kept in 32 bits
-pub record KeptAs (c : Kept) (a : Above) : Type 0 where
+pub record KeptAs (c : CachedInfo) (a : Above) : Type 0 where
   pub height : c.height ≡ a.height
   pub size : c.size ≡ a.size
   pub flags : c.flags ≡ a.flags

@@ -4,10 +4,10 @@ use Rattle.ir_core.specs.Flags.{bits_of}
 use Rattle.ir_laws.specs.Counts.{flags, height, outer, size}
 use Rattle.ir_laws.specs.Heap.{size_cap}
 use Rattle.ir_laws.specs.Tree.{Term}
-use Rattle.ir_table.specs.declared.parts.Kept.{Kept}
+use Rattle.ir_table.specs.declared.nodes.CachedInfo.{CachedInfo}
 
 -- what is kept is what is counted over the tree
-pub record Tells (t : Term) (c : Kept) : Type 0 where
+pub record Tells (t : Term) (c : CachedInfo) : Type 0 where
   pub height : c.height ≡ height t
   pub size : c.size ≡ min size_cap (size t)
   pub flags : bits_of c.flags ≡ flags t

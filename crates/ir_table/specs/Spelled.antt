@@ -1,26 +1,18 @@
 -- What is spelled of a part, and behind what.
 use Rattle.std.specs.Prelude.{◌≡◌, false, List, [], ◌∷◌, ◌++◌, map, Option, unwrap_or, length, take, codes}
 use Rattle.ir_core.specs.declared.ids.SolverDefId.{SolverDefId}
-use Rattle.ir_core.specs.declared.handles.Ty.{Ty}
 use Rattle.ir_core.specs.declared.handles.Part.{Part}
-use Rattle.ir_core.specs.declared.handles.Part.TheVariants as part
-use Rattle.ir_core.specs.declared.terms.AnyTerm.{AnyTerm}
-use Rattle.ir_core.specs.declared.terms.AnyTerm.TheVariants as any
 use Rattle.ir_laws.specs.declared.labels.Part.{Part as LabelPart}
 use Rattle.ir_laws.specs.declared.labels.Sort.TheVariants.{OfList}
 use Rattle.ir_laws.specs.Tree.{Text, Label}
 use Rattle.ir_laws.specs.Same.{same_sort}
 use Rattle.ir_laws.specs.Counts.{sort_of_label}
 use Rattle.ir_laws.specs.Spelling.{bind_texts, field_text, in_brackets, label_text, part_texts, spell}
-use Rattle.ir_laws.specs.Heap.{Layer, Heap, shape_over, tree_of}
-use Rattle.ir_table.specs.declared.parts.Node.{Node}
-use Rattle.ir_table.specs.Kinds.{node_layer, tys_kids}
-
--- the part of a term
-abbrev pub part_of : AnyTerm → Part
-part_of (any.Ty t) = part.Ty t
-part_of (any.Region r) = part.Region r
-part_of (any.Const c) = part.Const c
+use Rattle.ir_laws.specs.Heap.{Heap, shape_over, tree_of}
+use Rattle.ir_table.specs.declared.nodes.Node.{Node}
+use Rattle.ir_table.specs.declared.layers.List.{List as ListRead}
+use Rattle.ir_table.specs.Layers.{list_kids}
+use Rattle.ir_table.specs.Nodes.{kids_in, node_layer}
 
 -- an id without a name is spelled `?`
 abbrev pub name_text : (SolverDefId → Option Text) → SolverDefId → Text
@@ -35,22 +27,27 @@ abbrev pub after_each : List Text → Text
 after_each [] = []
 after_each (t ∷ ts) = codes " " ++ t ++ after_each ts
 
+-- the first text behind this one, and each other behind a space
+abbrev pub after : Text → List Text → Text
+after space [] = []
+after space (t ∷ ts) = space ++ t ++ after_each ts
+
 module _ (name : SolverDefId → Text) (h : Heap Part) where
   -- the texts of the parts
   abbrev pub kid_texts : List Part → List Text
   kid_texts ps = map (λ p. spell name (tree_of h p)) ps
 
-  -- a node of the layer
-  unfoldable pub node_text : Layer Part → Text
-  node_text l = label_text name l.label (shape_over h l).bind (kid_texts l.kids)
+  -- a node
+  unfoldable pub node_text : Node → Text
+  node_text n = label_text name (node_layer n).label (shape_over h (node_layer n)).bind (kid_texts (kids_in n.content))
 
   -- what stands behind the word of a node
   unfoldable pub places_text : List LabelPart → Node → Text
-  places_text parts n = after_each (part_texts parts (map (field_text name) (node_layer n).label.fields) (bind_texts name (shape_over h (node_layer n)).bind) (kid_texts (node_layer n).kids))
+  places_text parts n = after_each (part_texts parts (map (field_text name) (node_layer n).label.fields) (bind_texts name (shape_over h (node_layer n)).bind) (kid_texts (kids_in n.content)))
 
-  -- a list of types
-  unfoldable pub list_text : List Ty → Text
-  list_text tys = in_brackets (kid_texts (tys_kids tys))
+  -- a list
+  unfoldable pub list_text : ListRead → Text
+  list_text l = in_brackets (kid_texts (list_kids l))
 
 -- the label is no list's
 unfoldable pub IsNoList : Label SolverDefId → Type 0

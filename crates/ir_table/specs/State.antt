@@ -3,7 +3,7 @@ use Rattle.std.specs.Prelude.{◌≡◌, ℕ, ◌+◌, ◌<◌, ◌≤◌, ◌�
 use Rattle.ir_core.specs.declared.errors.TermError.{TermError}
 use Rattle.ir_core.specs.declared.errors.TermError.TheVariants as error
 use Rattle.ir_core.specs.declared.handles.Part.{Part}
-use Rattle.ir_laws.specs.Heap.{Layer, Heap, IsLive, Grows, Holds, Interns, tree_above, tree_of}
+use Rattle.ir_laws.specs.Heap.{Layer, Heap, kid_count, IsLive, Grows, Holds, Interns, tree_above, tree_of}
 use Rattle.ir_laws.specs.Held.{Stands}
 use Rattle.ir_laws.specs.Limits.{Limits, capped, is_within}
 use Rattle.ir_laws.specs.Parts.{is_part}
@@ -29,7 +29,7 @@ IsNew s l = Holds s.heap l → ⊥
 
 -- how many items a node keeps: those of a list, else its fields and its kids
 abbrev pub width : Layer Part → ℕ
-width l = length l.label.fields + length l.kids
+width l = length l.label.fields + kid_count l.kids
 
 -- the refusals that a making call has
 abbrev pub IsRefusal : TermError → Type 0

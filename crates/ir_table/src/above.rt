@@ -9,31 +9,23 @@ ghost use Rattle.ir_table.specs.Above.{
   IsLeaf,
   IsOwn,
   IsPlain,
-  KeptOf,
   WithKids,
   WithVariables,
   variable_flags,
   variable_index,
   variable_outer,
 };
-ghost use Rattle.ir_table.specs.Kinds.{
-  const_layer,
-  heap_of,
-  node_layer,
-  region_layer,
-  ty_layer,
-  tys_layer,
-};
-ghost use Rattle.std.specs.Option.{option_map};
-ghost use Rattle.std.specs.Prelude.{◌≡◌, ◌+◌, ◌-◌, ◌<◌, ◌≤◌, ◌^◌, ◌∷◌, [], Some, if◌then◌else◌, length, slice_get};
+ghost use Rattle.ir_laws.specs.Counts.{bound_flag, placeholder_flags};
+ghost use Rattle.ir_table.specs.Fits.{fits_row};
+ghost use Rattle.ir_table.specs.Heaps.{heap_of};
+ghost use Rattle.ir_table.specs.Nodes.{node_layer, tys_layer, variable_seen};
+ghost use Rattle.std.specs.Prelude.{◌≡◌, ◌+◌, ◌-◌, ◌<◌, ◌≤◌, ◌^◌, ◌∷◌, [], Some, if◌then◌else◌, true};
 
-use crate::parts::{Kept, Kids, Node};
-use crate::split::{const_node, region_node, ty_node};
 use crate::store::Store;
+use crate::{CachedInfo, Content, Kids, ListKey, Node};
 use bitflags::Flags;
-use ir_core::{
-    BoundVar, BoundVarIndexKind, ConstKind, DebruijnIndex, Part, RegionKind, Ty, TyKind, TypeFlags,
-};
+use ir_core::{BoundVar, BoundVarIndexKind, BoundVarKind, DebruijnIndex, Part, Ty, TypeFlags};
+use ir_laws::Word;
 
 // A size past this is kept as this.
 const SIZE_CAP: u64 = (1 << 48) + 1;
@@ -124,76 +116,68 @@ impl Above {
     }
 }
 
-// What the label of a type is by itself.
-pub(crate) fn ty_own(kind: TyKind) -> Above
-    ensures { IsOwn (ty_layer kind).label result }
+// The flag of a bound variable of this kind.
+fn bound_flag(kind: BoundVarKind) -> TypeFlags
+    ensures { bits_of result ≡ bound_flag (variable_seen kind).sort }
 {
     match kind {
-        TyKind::Bound(index, bound) => Above::variable(index, bound.var, TypeFlags::HAS_TY_BOUND),
-        _ => Above::begin(ty_node(kind).word.flags()),
+        BoundVarKind::Ty(_) => TypeFlags::HAS_TY_BOUND,
+        BoundVarKind::Region(_) => TypeFlags::HAS_RE_BOUND,
+        BoundVarKind::Const => TypeFlags::HAS_CT_BOUND,
     }
 }
 
-// What the label of a region is by itself.
-pub(crate) fn region_own(kind: RegionKind) -> Above
-    ensures { IsOwn (region_layer kind).label result }
+// The flags of a placeholder of this kind.
+fn placeholder_flags(kind: BoundVarKind) -> TypeFlags
+    ensures { bits_of result ≡ placeholder_flags (variable_seen kind).sort }
 {
     match kind {
-        RegionKind::ReBound(index, bound) => {
-            Above::variable(index, bound.var, TypeFlags::HAS_RE_BOUND)
-        }
-        _ => Above::begin(region_node(kind).word.flags()),
+        BoundVarKind::Ty(_) => TypeFlags::HAS_TY_PLACEHOLDER,
+        BoundVarKind::Region(_) => TypeFlags::HAS_RE_PLACEHOLDER
+            .union(TypeFlags::HAS_FREE_REGIONS)
+            .union(TypeFlags::HAS_FREE_LOCAL_REGIONS),
+        BoundVarKind::Const => TypeFlags::HAS_CT_PLACEHOLDER,
     }
 }
 
-// What the label of a constant is by itself.
-pub(crate) fn const_own(kind: ConstKind) -> Above
-    ensures { IsOwn (const_layer kind).label result }
+// What a node's label is by itself. It goes by the form of the row.
+pub(crate) fn node_own(node: &Node) -> Above
+    requires { fits_row (node_layer node.now) ≡ true }
+    ensures { IsOwn (node_layer node.now).label result }
 {
-    match kind {
-        ConstKind::Bound(index, bound) => {
-            Above::variable(index, bound.var, TypeFlags::HAS_CT_BOUND)
+    match node.content {
+        Content::Placed(index, number, kind) => {
+            if node.word == Word::BoundVariable {
+                let index = BoundVarIndexKind::Bound(DebruijnIndex(index));
+                Above::variable(index, BoundVar(number), bound_flag(kind))
+            } else {
+                Above::begin(placeholder_flags(kind))
+            }
         }
-        _ => Above::begin(const_node(kind).word.flags()),
+        Content::Numbered(number, kind) => Above::variable(
+            BoundVarIndexKind::Canonical,
+            BoundVar(number),
+            bound_flag(kind),
+        ),
+        Content::Bare
+        | Content::Number(_)
+        | Content::One(_)
+        | Content::Two(_, _)
+        | Content::ChosenOne(_, _)
+        | Content::ChosenTwo(_, _, _)
+        | Content::BoundOne(_, _)
+        | Content::Signature(_, _, _, _, _)
+        | Content::Opened(_, _, _, _) => Above::begin(node.word.flags()),
     }
 }
 
 impl Store {
-    // What is kept beside the part's node.
-    pub(crate) fn cached(&self, part: Part) -> Kept
-        requires { IsLive (heap_of self.now.tables) part }
-        ensures { KeptOf (heap_of self.now.tables) part result }
-    {
-        let tables = &self.tables;
-        match part {
-            Part::Ty(ty) => tables.tys.get(ty.index as usize).1,
-            Part::Const(konst) => tables.consts.get(konst.index as usize).1,
-            Part::Region(region) => tables.regions.get(region.index as usize).1,
-            Part::Tys(list) => tables.type_lists.value(list.index as usize),
-            Part::BoundVarKinds(list) => tables.variable_lists.value(list.index as usize),
-            Part::VariancesOf(list) => tables.variance_lists.value(list.index as usize),
-            Part::GenericArgs(list) => self.cached_empty(list.index),
-            Part::PatList(list) => self.cached_empty(list.index),
-            Part::BoundExistentialPredicates(list) => self.cached_empty(list.index),
-            Part::Clauses(list) => self.cached_empty(list.index),
-            Part::RegionAssumptions(list) => self.cached_empty(list.index),
-        }
-    }
-
-    // The same, as what is counted over the part's tree.
-    pub(crate) fn told(&self, part: Part) -> Kept
+    // The cached info of the part, as what is counted over its tree.
+    pub(crate) fn told(&self, part: Part) -> CachedInfo
         requires { IsLive (heap_of self.now.tables) part }
         ensures { Tells (tree_of (heap_of self.now.tables) part) result }
     {
         self.cached(part)
-    }
-
-    // What is kept beside the empty list at the index.
-    fn cached_empty(&self, index: u32) -> Kept
-        requires { index < length self.now.tables.empty_lists }
-        ensures { option_map (λ e. e.1) (slice_get self.now.tables.empty_lists index) ≡ Some result }
-    {
-        self.tables.empty_lists.get(index as usize).1
     }
 
     // One kid more.
@@ -220,13 +204,14 @@ impl Store {
         ensures variables { WithVariables (heap_of self.now.tables) (node_layer node.now) above result }
         ensures capped { above.size ≤ size_cap → result.size ≤ size_cap }
     {
-        let Some(variables) = node.binder else {
+        let Some(variables) = node.binder() else {
             return above;
         };
         let count = self
             .tables
             .variable_lists
-            .get(variables.index as usize)
+            .key(variables.index as usize)
+            .as_slice()
             .len();
         let flags = if count == 0 {
             above.flags
@@ -248,22 +233,22 @@ impl Store {
         ensures { IsAbove (heap_of self.now.tables) (node_layer node.now) result }
     {
         let bound = self.with_variables(own, node);
-        let above = match node.kids {
+        let above = match node.kids() {
             Kids::None => bound,
             Kids::One(kid) => self.with_kid(bound, kid),
             Kids::Two(first, second) => self.with_kid(self.with_kid(bound, first), second),
         };
-        above.over(node.binder.is_some())
+        above.over(node.binder().is_some())
     }
 
     // What is kept beside a node that is no part of its own, whose label is no variable's.
-    pub(crate) fn told_node(&self, node: &Node) -> Kept
+    pub(crate) fn told_node(&self, node: &Node) -> CachedInfo
         requires live { Each (IsLive (heap_of self.now.tables)) (names_in (node_layer node.now)) }
         requires plain { IsPlain (node_layer node.now).label }
         ensures { Tells (tree_above (heap_of self.now.tables) (node_layer node.now)) result }
     {
         let above = self.above_node(Above::begin(node.word.flags()), node);
-        Kept {
+        CachedInfo {
             height: above.height as u32,
             size: above.size,
             flags: above.flags,

@@ -3,50 +3,46 @@
 
 mod above;
 mod cached;
-mod constants;
-mod exact;
 mod intern;
-mod join;
 mod laws;
-mod list_table;
+mod layers;
 mod listed;
+mod lists;
 mod live;
+mod make;
 mod names;
-mod parts;
-mod regions;
+mod nodes;
 mod spelling;
-mod split;
 mod start;
 mod store;
 mod table;
+mod tabled;
+mod terms;
 #[cfg(test)]
 mod tests;
-mod type_lists;
-mod types;
-mod variable_lists;
-mod variance_lists;
+mod values;
+mod views;
 
-ghost use Rattle.ir_table.specs.Kinds.{heap_of};
+ghost use Rattle.ir_table.specs.Heaps.{heap_of};
 ghost use Rattle.ir_table.specs.Start.{are_named};
 ghost use Rattle.std.specs.Prelude.{◌≡◌, true};
 
 pub use cached::Cached;
-pub use exact::Exact;
 pub use intern::{Intern, InternList};
 use ir_core::{DefaultAny, Limits};
-pub use join::{AnyKind, kind_of};
 pub use laws::{equal_handles, held_nodes_are_given, interning_only_adds, parts_are_counted};
-pub use list_table::{ListKey, ListTable};
+pub use layers::{Layer, List};
 pub use listed::{Listed, variables_are_listed};
+pub use lists::{dummy, inputs, output};
 pub use live::Live;
 pub use names::{Names, NoNames};
-pub use parts::{Field, Fields, Kept, Kids, Node};
+pub use nodes::{CachedInfo, Content, Field, Kids, Node};
 pub use spelling::spell;
 pub use store::EmptyList;
-use store::{Store, Tables};
-pub use table::Table;
-pub use type_lists::{inputs, output};
-pub use variable_lists::dummy;
+use store::Store;
+pub use table::{Key, ListKey, Member, Table};
+pub use terms::{part_of, sort_of_part, term_of};
+pub use values::Value;
 
 /// All terms, and the limits of these: each part is held once, and its handle is its place in the table of its sort.
 #[derive(Drop)]

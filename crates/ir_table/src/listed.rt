@@ -2,7 +2,7 @@
 ghost use Rattle.ir_core.specs.declared.errors.TermError.TheVariants.{Memory};
 ghost use Rattle.ir_core.specs.declared.handles.Part.{Part as PartSeen};
 ghost use Rattle.ir_laws.specs.Causes.{are_listed};
-ghost use Rattle.ir_laws.specs.Heap.{Each, Heap, IsLive, forest, leaf_of, names_in, tree_above, tree_of};
+ghost use Rattle.ir_laws.specs.Heap.{Each, Heap, IsLive, forest, kid_names, names_in, tree_above, tree_of};
 ghost use Rattle.ir_laws.specs.Listed.{
   all_fit_binder,
   all_listed_within,
@@ -11,19 +11,15 @@ ghost use Rattle.ir_laws.specs.Listed.{
 };
 ghost use Rattle.ir_laws.specs.Tree.{Var};
 ghost use Rattle.ir_table.specs.Interner.{heap};
-ghost use Rattle.ir_table.specs.Kinds.{kids_of, node_layer, tys_kids, variable_seen};
+ghost use Rattle.ir_table.specs.Layers.{layer_seen};
+ghost use Rattle.ir_table.specs.Nodes.{variable_seen};
 ghost use Rattle.ir_table.specs.Listed.{AreFit, AreListed};
 ghost use Rattle.std.specs.Prelude.{◌≡◌, ◌<◌, [], Err, IfOk, None, OnErr, OnOk, map as mapped};
 
-use crate::parts::{Kids, Node};
-use crate::split::ty_node;
-use crate::{Cached, Intern, InternList, Interner};
+use crate::{Cached, InternList, Interner, Layer};
 use bitflags::Flags;
 use indexmap::IndexSet;
-use ir_core::{
-    BoundVar, BoundVarIndexKind, BoundVarKind, ConstKind, DebruijnIndex, Part, R, RegionKind, Ty,
-    TyKind, TypeFlags,
-};
+use ir_core::{BoundVar, BoundVarKind, DebruijnIndex, Part, R, TypeFlags};
 use std::alloc::Global;
 
 // The flags of bound variables.
@@ -87,83 +83,42 @@ fn part_is_within(alloc: Global, cx: &Interner, part: Part, listed: &mut Listed)
     if listed.parts.contains(&part) {
         return Ok(true);
     }
-    if !inside_is_within(alloc, cx, part, listed)? {
+    if !layer_is_within(alloc, cx, cx.layer(part), listed)? {
         return Ok(false);
     }
     listed.parts.insert(part)?;
     Ok(true)
 }
 
-// The same, from what the part holds.
+// The same, from what the part is: its own binder, and then those in its kids.
 #[cycle(within)]
-fn inside_is_within(alloc: Global, cx: &Interner, part: Part, listed: &mut Listed) -> R<bool>
-    requires live { IsLive (heap cx.now) part }
+fn layer_is_within(alloc: Global, cx: &Interner, layer: Layer<'_>, listed: &mut Listed) -> R<bool>
+    requires live { Each (IsLive (heap cx.now)) (names_in (layer_seen layer)) }
     requires listed { AreListed (heap cx.now) listed.old }
-    ensures ok { IfOk result (λ all. all ≡ listed_within (tree_of (heap cx.now) part)) }
+    ensures ok { IfOk result (λ all. all ≡ listed_within (tree_above (heap cx.now) (layer_seen layer.entry))) }
     ensures err { OnErr result (result ≡ Err Memory) }
     ensures listed { OnOk result (AreListed (heap cx.now) listed.new) }
 {
-    match part {
-        Part::Ty(ty) => node_is_within(alloc, cx, &ty_node(ty.kind(cx)), listed),
-        Part::Tys(tys) => types_are_within(alloc, cx, tys.as_slice(cx), listed),
-        // The others have no kids.
-        _ => Ok(true),
-    }
-}
-
-// The same of a node: its own binder, and then those in its kids.
-#[cycle(within)]
-fn node_is_within(alloc: Global, cx: &Interner, node: &Node, listed: &mut Listed) -> R<bool>
-    requires live { Each (IsLive (heap cx.now)) (names_in (node_layer node.now)) }
-    requires listed { AreListed (heap cx.now) listed.old }
-    ensures ok { IfOk result (λ all. all ≡ listed_within (tree_above (heap cx.now) (node_layer node.now))) }
-    ensures err { OnErr result (result ≡ Err Memory) }
-    ensures listed { OnOk result (AreListed (heap cx.now) listed.new) }
-{
-    match node.binder {
-        None => kids_are_within(alloc, cx, node.kids, listed),
-        Some(variables) => {
-            let own = variables.as_slice(cx);
-            if !kids_fit(cx, own, node.kids, 0, &mut IndexSet::new(alloc))? {
-                return Ok(false);
-            }
-            kids_are_within(alloc, cx, node.kids, listed)
+    if let Some(variables) = layer.binder() {
+        let own = variables.as_slice(cx);
+        if !kids_fit(cx, own, layer, 0, &mut IndexSet::new(alloc))? {
+            return Ok(false);
         }
     }
+    kids_are_within(alloc, cx, layer, listed)
 }
 
-// The same of each of these kids.
+// The same of each of its kids.
 #[cycle(within)]
-fn kids_are_within(alloc: Global, cx: &Interner, kids: Kids, listed: &mut Listed) -> R<bool>
-    requires live { Each (IsLive (heap cx.now)) (kids_of kids) }
+fn kids_are_within(alloc: Global, cx: &Interner, layer: Layer<'_>, listed: &mut Listed) -> R<bool>
+    requires live { Each (IsLive (heap cx.now)) (kid_names (layer_seen layer).kids) }
     requires listed { AreListed (heap cx.now) listed.old }
-    ensures ok { IfOk result (λ all. all ≡ all_listed_within (forest (tree_of (heap cx.now)) (kids_of kids))) }
+    ensures ok { IfOk result (λ all. all ≡ all_listed_within (forest (tree_of (heap cx.now)) (kid_names (layer_seen layer.entry).kids))) }
     ensures err { OnErr result (result ≡ Err Memory) }
     ensures listed { OnOk result (AreListed (heap cx.now) listed.new) }
 {
-    match kids {
-        Kids::None => Ok(true),
-        Kids::One(kid) => part_is_within(alloc, cx, kid, listed),
-        Kids::Two(first, second) => {
-            if !part_is_within(alloc, cx, first, listed)? {
-                return Ok(false);
-            }
-            part_is_within(alloc, cx, second, listed)
-        }
-    }
-}
-
-// The same of each of these types.
-#[cycle(within)]
-fn types_are_within(alloc: Global, cx: &Interner, tys: &[Ty], listed: &mut Listed) -> R<bool>
-    requires live { Each (IsLive (heap cx.now)) (tys_kids tys.now) }
-    requires listed { AreListed (heap cx.now) listed.old }
-    ensures ok { IfOk result (λ all. all ≡ all_listed_within (forest (tree_of (heap cx.now)) (tys_kids tys.now))) }
-    ensures err { OnErr result (result ≡ Err Memory) }
-    ensures listed { OnOk result (AreListed (heap cx.now) listed.new) }
-{
-    for ty in tys {
-        if !part_is_within(alloc, cx, Part::Ty(*ty), listed)? {
+    for index in 0..layer.kid_count() {
+        if !part_is_within(alloc, cx, layer.kid(index), listed)? {
             return Ok(false);
         }
     }
@@ -193,135 +148,56 @@ fn part_fits(
     if known.contains(&place) {
         return Ok(true);
     }
-    if !inside_fits(cx, variables, part, depth, known)? {
+    if !layer_fits(cx, variables, cx.layer(part), depth, known)? {
         return Ok(false);
     }
     known.insert(place)?;
     Ok(true)
 }
 
-// The same, from what the part holds.
+// The same, from what the part is.
 #[cycle(fit)]
-fn inside_fits(
+fn layer_fits(
     cx: &Interner,
     variables: &[BoundVarKind],
-    part: Part,
+    layer: Layer<'_>,
     depth: u32,
     known: &mut IndexSet<Place>,
 ) -> R<bool>
-    requires live { IsLive (heap cx.now) part }
+    requires live { Each (IsLive (heap cx.now)) (names_in (layer_seen layer)) }
     requires room { depth < u32.MAX }
     requires known { AreFit (heap cx.now) (mapped variable_seen variables.now) known.old }
-    ensures ok { IfOk result (λ fits. fits ≡ fits_binder (mapped variable_seen variables.now) depth (tree_of (heap cx.now) part)) }
+    ensures ok { IfOk result (λ fits. fits ≡ fits_binder (mapped variable_seen variables.now) depth (tree_above (heap cx.now) (layer_seen layer.entry))) }
     ensures err { OnErr result (result ≡ Err Memory) }
     ensures known { OnOk result (AreFit (heap cx.now) (mapped variable_seen variables.now) known.new) }
 {
-    match part {
-        Part::Ty(ty) => match ty.kind(cx) {
-            TyKind::Bound(BoundVarIndexKind::Bound(index), bound) => Ok(variable_fits(
-                variables,
-                depth,
-                index,
-                bound.var,
-                BoundVarKind::Ty(bound.kind),
-            )),
-            kind => node_fits(cx, variables, &ty_node(kind), depth, known),
-        },
-        Part::Region(region) => match region.kind(cx) {
-            RegionKind::ReBound(BoundVarIndexKind::Bound(index), bound) => Ok(variable_fits(
-                variables,
-                depth,
-                index,
-                bound.var,
-                BoundVarKind::Region(bound.kind),
-            )),
-            // The other regions have no kids.
-            _ => Ok(true),
-        },
-        Part::Const(constant) => match constant.kind(cx) {
-            ConstKind::Bound(BoundVarIndexKind::Bound(index), bound) => Ok(variable_fits(
-                variables,
-                depth,
-                index,
-                bound.var,
-                BoundVarKind::Const,
-            )),
-            // Nor have the other constants.
-            _ => Ok(true),
-        },
-        Part::Tys(tys) => types_fit(cx, variables, tys.as_slice(cx), depth, known),
-        // The other lists have no kids.
-        _ => Ok(true),
+    if let Some((index, var, kind)) = layer.bound_variable() {
+        return Ok(variable_fits(variables, depth, index, var, kind));
+    }
+    if layer.binder().is_some() {
+        kids_fit(cx, variables, layer, depth + 1, known)
+    } else {
+        kids_fit(cx, variables, layer, depth, known)
     }
 }
 
-// The same of a node that is no variable.
-#[cycle(fit)]
-fn node_fits(
-    cx: &Interner,
-    variables: &[BoundVarKind],
-    node: &Node,
-    depth: u32,
-    known: &mut IndexSet<Place>,
-) -> R<bool>
-    requires live { Each (IsLive (heap cx.now)) (names_in (node_layer node.now)) }
-    requires plain { leaf_of (node_layer node.now).label ≡ None }
-    requires room { depth < u32.MAX }
-    requires known { AreFit (heap cx.now) (mapped variable_seen variables.now) known.old }
-    ensures ok { IfOk result (λ fits. fits ≡ fits_binder (mapped variable_seen variables.now) depth (tree_above (heap cx.now) (node_layer node.now))) }
-    ensures err { OnErr result (result ≡ Err Memory) }
-    ensures known { OnOk result (AreFit (heap cx.now) (mapped variable_seen variables.now) known.new) }
-{
-    match node.binder {
-        None => kids_fit(cx, variables, node.kids, depth, known),
-        Some(_) => kids_fit(cx, variables, node.kids, depth + 1, known),
-    }
-}
-
-// The same of each of these kids.
+// The same of each of its kids.
 #[cycle(fit)]
 fn kids_fit(
     cx: &Interner,
     variables: &[BoundVarKind],
-    kids: Kids,
+    layer: Layer<'_>,
     depth: u32,
     known: &mut IndexSet<Place>,
 ) -> R<bool>
-    requires live { Each (IsLive (heap cx.now)) (kids_of kids) }
+    requires live { Each (IsLive (heap cx.now)) (kid_names (layer_seen layer).kids) }
     requires known { AreFit (heap cx.now) (mapped variable_seen variables.now) known.old }
-    ensures ok { IfOk result (λ fit. fit ≡ all_fit_binder (mapped variable_seen variables.now) depth (forest (tree_of (heap cx.now)) (kids_of kids))) }
+    ensures ok { IfOk result (λ fit. fit ≡ all_fit_binder (mapped variable_seen variables.now) depth (forest (tree_of (heap cx.now)) (kid_names (layer_seen layer.entry).kids))) }
     ensures err { OnErr result (result ≡ Err Memory) }
     ensures known { OnOk result (AreFit (heap cx.now) (mapped variable_seen variables.now) known.new) }
 {
-    match kids {
-        Kids::None => Ok(true),
-        Kids::One(kid) => part_fits(cx, variables, kid, depth, known),
-        Kids::Two(first, second) => {
-            if !part_fits(cx, variables, first, depth, known)? {
-                return Ok(false);
-            }
-            part_fits(cx, variables, second, depth, known)
-        }
-    }
-}
-
-// The same of each of these types.
-#[cycle(fit)]
-fn types_fit(
-    cx: &Interner,
-    variables: &[BoundVarKind],
-    tys: &[Ty],
-    depth: u32,
-    known: &mut IndexSet<Place>,
-) -> R<bool>
-    requires live { Each (IsLive (heap cx.now)) (tys_kids tys.now) }
-    requires known { AreFit (heap cx.now) (mapped variable_seen variables.now) known.old }
-    ensures ok { IfOk result (λ fit. fit ≡ all_fit_binder (mapped variable_seen variables.now) depth (forest (tree_of (heap cx.now)) (tys_kids tys.now))) }
-    ensures err { OnErr result (result ≡ Err Memory) }
-    ensures known { OnOk result (AreFit (heap cx.now) (mapped variable_seen variables.now) known.new) }
-{
-    for ty in tys {
-        if !part_fits(cx, variables, Part::Ty(*ty), depth, known)? {
+    for index in 0..layer.kid_count() {
+        if !part_fits(cx, variables, layer.kid(index), depth, known)? {
             return Ok(false);
         }
     }

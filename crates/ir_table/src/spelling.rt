@@ -3,24 +3,21 @@ ghost use Rattle.ir_core.specs.declared.errors.TermError.TheVariants as error;
 ghost use Rattle.ir_laws.specs.Heap.{Each, IsLive, names_in, tree_of};
 ghost use Rattle.ir_laws.specs.Spelling.{bind_text, field_text, kind_text, spell as spelling};
 ghost use Rattle.ir_table.specs.Interner.{heap};
-ghost use Rattle.ir_table.specs.Kinds.{field_seen, node_layer, tys_kids, variable_seen};
+ghost use Rattle.ir_table.specs.Layers.{list_kids};
+ghost use Rattle.ir_table.specs.Nodes.{field_seen, node_layer, variable_seen};
 ghost use Rattle.ir_table.specs.Spelled.{
   Begins,
   IsNoList,
   list_text,
   name_text,
   node_text,
-  part_of,
   places_text,
 };
+ghost use Rattle.ir_table.specs.Views.{part_of};
 ghost use Rattle.std.specs.Prelude.{◌≡◌, ◌++◌, codes, Err, OnOk, OnErr, map as mapped};
 
-use crate::parts::{Field, Node};
-use crate::split::{const_node, region_node, ty_node};
-use crate::{Intern, InternList, Interner, Names};
-use ir_core::{
-    AnyTerm, BoundRegionKind, BoundTyKind, BoundVarKind, Part, R, SolverDefId, Text, Ty,
-};
+use crate::{Field, InternList, Interner, Layer, List, Names, Node, part_of};
+use ir_core::{AnyTerm, BoundRegionKind, BoundTyKind, BoundVarKind, Part, R, SolverDefId, Text};
 use ir_laws::Part as Place;
 use std::alloc::Global;
 
@@ -36,13 +33,8 @@ pub fn spell<N: Names>(
     ensures ok { OnOk result (out.new ≡ out.old ++ spelling (name_text (N.named names.now)) (tree_of (heap cx.now) (part_of term))) }
     ensures err { OnErr result ((out.new ≡ out.old) × (result ≡ Err error.Memory)) }
 {
-    let part = match term {
-        AnyTerm::Ty(ty) => Part::Ty(ty),
-        AnyTerm::Region(region) => Part::Region(region),
-        AnyTerm::Const(konst) => Part::Const(konst),
-    };
     let length = out.as_bytes().len();
-    let answer = spell_part(alloc, cx, names, part, out);
+    let answer = spell_part(alloc, cx, names, part_of(term), out);
     if answer.is_err() {
         out.truncate(length);
     }
@@ -62,13 +54,9 @@ fn spell_part<N: Names>(
     ensures ok { OnOk result (out.new ≡ out.old ++ spelling (name_text (N.named names.now)) (tree_of (heap cx.now) part)) }
     ensures err { OnErr result (Begins out.old out.new × (result ≡ Err error.Memory)) }
 {
-    match part {
-        Part::Ty(ty) => spell_node(alloc, cx, names, &ty_node(ty.kind(cx)), out),
-        Part::Region(region) => spell_node(alloc, cx, names, &region_node(region.kind(cx)), out),
-        Part::Const(konst) => spell_node(alloc, cx, names, &const_node(konst.kind(cx)), out),
-        Part::Tys(tys) => spell_tys(alloc, cx, names, tys.as_slice(cx), out),
-        // The other lists have no kids.
-        _ => out.append(b"()"),
+    match cx.layer(part) {
+        Layer::Node(node) => spell_node(alloc, cx, names, node, out),
+        Layer::List(list) => spell_list(alloc, cx, names, list, out),
     }
 }
 
@@ -83,7 +71,7 @@ fn spell_node<N: Names>(
 ) -> R<()>
     requires live { Each (IsLive (heap cx.now)) (names_in (node_layer node.now)) }
     requires no_list { IsNoList (node_layer node.now).label }
-    ensures ok { OnOk result (out.new ≡ out.old ++ node_text (name_text (N.named names.now)) (heap cx.now) (node_layer node.now)) }
+    ensures ok { OnOk result (out.new ≡ out.old ++ node_text (name_text (N.named names.now)) (heap cx.now) node.now) }
     ensures err { OnErr result (Begins out.old out.new × (result ≡ Err error.Memory)) }
 {
     let word = node.word.text();
@@ -116,19 +104,19 @@ fn spell_places<N: Names>(
         match *place {
             Place::Fixed(word) => append_both(out, b" ", word.text())?,
             Place::ForGroup => {
-                if let Some(variables) = node.binder {
+                if let Some(variables) = node.binder() {
                     spell_variables(names, variables.as_slice(cx), out)?;
                 }
             }
             Place::AField(_) => {
-                let Some(field) = node.fields.get(fields) else {
+                let Some(field) = node.field(fields) else {
                     return Ok(());
                 };
                 spell_field(alloc, names, field, out)?;
                 fields += 1;
             }
             Place::AKid(_) => {
-                let Some(kid) = node.kids.get(kids) else {
+                let Some(kid) = node.kids().get(kids) else {
                     return Ok(());
                 };
                 out.append(b" ")?;
@@ -140,21 +128,25 @@ fn spell_places<N: Names>(
     Ok(())
 }
 
-// The types in brackets.
+// The kids of a list in brackets.
 #[cycle(spelling)]
-fn spell_tys<N: Names>(alloc: Global, cx: &Interner, names: &N, tys: &[Ty], out: &mut Text) -> R<()>
-    requires { Each (IsLive (heap cx.now)) (tys_kids tys.now) }
-    ensures ok { OnOk result (out.new ≡ out.old ++ list_text (name_text (N.named names.now)) (heap cx.now) tys.now) }
+fn spell_list<N: Names>(
+    alloc: Global,
+    cx: &Interner,
+    names: &N,
+    list: List<'_>,
+    out: &mut Text,
+) -> R<()>
+    requires { Each (IsLive (heap cx.now)) (list_kids list) }
+    ensures ok { OnOk result (out.new ≡ out.old ++ list_text (name_text (N.named names.now)) (heap cx.now) list.entry) }
     ensures err { OnErr result (Begins out.old out.new × (result ≡ Err error.Memory)) }
 {
-    let [first, rest @ ..] = tys else {
-        return out.append(b"()");
-    };
     out.append(b"(")?;
-    spell_part(alloc, cx, names, Part::Ty(*first), out)?;
-    for ty in rest {
-        out.append(b" ")?;
-        spell_part(alloc, cx, names, Part::Ty(*ty), out)?;
+    let mut space: &[u8] = b"";
+    for index in 0..list.kid_count() {
+        out.append(space)?;
+        spell_part(alloc, cx, names, list.kid(index), out)?;
+        space = b" ";
     }
     out.append(b")")
 }

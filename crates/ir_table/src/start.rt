@@ -5,7 +5,7 @@ ghost use Rattle.ir_laws.specs.Limits.{capped};
 ghost use Rattle.ir_laws.specs.Start.{empty_lists, leaf, start_lists, start_parts, start_regions};
 ghost use Rattle.ir_laws.specs.declared.words.Word.TheVariants.{ErrorConstant, StaticRegion, StrType, TypeList};
 ghost use Rattle.ir_table.specs.Interner.{asked, heap, state, stored};
-ghost use Rattle.ir_table.specs.Kinds.{heap_of};
+ghost use Rattle.ir_table.specs.Heaps.{heap_of};
 ghost use Rattle.ir_table.specs.Limits.{limits_seen};
 ghost use Rattle.ir_table.specs.Start.{
   HoldsStart,
@@ -84,7 +84,7 @@ impl Store {
     {
         let mut types = [Ty::default(); 21];
         for (index, kind) in LEAF_TYPES.iter().enumerate() {
-            types[index] = self.ty(*kind)?;
+            types[index] = self.term(*kind)?;
         }
         Ok(types)
     }
@@ -94,7 +94,7 @@ impl Store {
         ensures makes { Makes (stored self.old) (stored self.new) (leaf ErrorConstant ∷ []) result }
         ensures names { IfOk result (λ d. Each (Names (heap_of self.new.tables)) (named_consts d)) }
     {
-        let error = self.constant(ConstKind::Error(ErrorGuaranteed))?;
+        let error = self.term(ConstKind::Error(ErrorGuaranteed))?;
         Ok(DefaultConsts { error })
     }
 
@@ -103,9 +103,9 @@ impl Store {
         ensures makes { Makes (stored self.old) (stored self.new) start_regions result }
         ensures names { IfOk result (λ d. Each (Names (heap_of self.new.tables)) (named_regions d)) }
     {
-        let error = self.region(RegionKind::ReError(ErrorGuaranteed))?;
-        let statik = self.region(RegionKind::ReStatic)?;
-        let erased = self.region(RegionKind::ReErased)?;
+        let error = self.term(RegionKind::ReError(ErrorGuaranteed))?;
+        let statik = self.term(RegionKind::ReStatic)?;
+        let erased = self.term(RegionKind::ReErased)?;
         Ok(DefaultRegions {
             error,
             statik,
@@ -120,21 +120,21 @@ impl Store {
     {
         let tys = self.tys(&[])?;
         let generic_args = GenericArgs {
-            index: self.empty_list(EmptyList::GenericArgs)?,
+            index: self.make(EmptyList::GenericArgs)?,
         };
         let pat_list = PatList {
-            index: self.empty_list(EmptyList::PatList)?,
+            index: self.make(EmptyList::PatList)?,
         };
         let bound_existential_predicates = BoundExistentialPredicates {
-            index: self.empty_list(EmptyList::BoundExistentialPredicates)?,
+            index: self.make(EmptyList::BoundExistentialPredicates)?,
         };
         let clauses = Clauses {
-            index: self.empty_list(EmptyList::Clauses)?,
+            index: self.make(EmptyList::Clauses)?,
         };
         let bound_var_kinds = self.variables(&[])?;
         let variances = self.variances(&[])?;
         let region_assumptions = RegionAssumptions {
-            index: self.empty_list(EmptyList::RegionAssumptions)?,
+            index: self.make(EmptyList::RegionAssumptions)?,
         };
         Ok(DefaultEmpty {
             tys,
@@ -171,9 +171,9 @@ impl Store {
         ensures makes { Makes (stored self.old) (stored self.new) compound_types result }
         ensures names { IfOk result (λ d. Each (Names (heap_of self.new.tables)) (named_compounds d.unit d.static_str_ref d.mut_unit_ptr)) }
     {
-        let unit = self.ty(TyKind::Tuple(members))?;
-        let static_str_ref = self.ty(TyKind::Ref(statik, str, Mutability::Not))?;
-        let mut_unit_ptr = self.ty(TyKind::RawPtr(unit, Mutability::Mut))?;
+        let unit = self.term(TyKind::Tuple(members))?;
+        let static_str_ref = self.term(TyKind::Ref(statik, str, Mutability::Not))?;
+        let mut_unit_ptr = self.term(TyKind::RawPtr(unit, Mutability::Mut))?;
         Ok(Compounds {
             unit,
             static_str_ref,

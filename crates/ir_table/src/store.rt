@@ -1,20 +1,18 @@
 //! The tables of all sorts, and what may go into them.
 ghost use Rattle.ir_core.specs.declared.handles.Part.{Part as PartSeen};
-ghost use Rattle.ir_laws.specs.Heap.{IsLive, IsSound, tree_of};
+ghost use Rattle.ir_laws.specs.Heap.{IsLive, IsSound, Sketch, tree_of};
 ghost use Rattle.ir_laws.specs.Held.{Counts};
 ghost use Rattle.ir_laws.specs.Limits.{capped, is_within};
-ghost use Rattle.ir_table.specs.Count.{count_of};
-ghost use Rattle.ir_table.specs.Kinds.{heap_of};
+ghost use Rattle.ir_table.specs.Fits.{layer_fits};
+ghost use Rattle.ir_table.specs.Heaps.{count_of, heap_of};
 ghost use Rattle.ir_table.specs.Limits.{limits_seen};
 ghost use Rattle.ir_laws.proofs.HeapLemmas.{sound_prop};
 ghost use Rattle.ir_laws.proofs.HeldLemmas.{Counts-prop};
-ghost use Rattle.std.specs.Prelude.{◌≡◌, ◌≤◌, true};
+ghost use Rattle.std.specs.Prelude.{◌≡◌, ◌≤◌, Some, true};
 
 use crate::above::Above;
-use crate::{Kept, ListTable, Table};
-use ir_core::{
-    BoundVarKind, ConstKind, DebruijnIndex, Limits, R, RegionKind, TermError, Ty, TyKind, Variance,
-};
+use crate::{CachedInfo, Node, Table};
+use ir_core::{BoundVarKind, DebruijnIndex, Limits, PartSort, R, TermError, Ty, Variance};
 use smallvec::SmallVec;
 use std::alloc::Global;
 
@@ -28,24 +26,38 @@ pub enum EmptyList {
     RegionAssumptions,
 }
 
-/// A table for each sort of parts.
+impl EmptyList {
+    ghost use Rattle.ir_table.specs.Fits.{layer_sort};
+    ghost use Rattle.ir_table.specs.Nodes.{empty_layer};
+
+    /// The sort of the handle that names it.
+    pub(crate) fn sort(self) -> PartSort
+        ensures { layer_sort (empty_layer self) ≡ Some result }
+    {
+        match self {
+            EmptyList::GenericArgs => PartSort::GenericArgs,
+            EmptyList::PatList => PartSort::PatList,
+            EmptyList::BoundExistentialPredicates => PartSort::BoundExistentialPredicates,
+            EmptyList::Clauses => PartSort::Clauses,
+            EmptyList::RegionAssumptions => PartSort::RegionAssumptions,
+        }
+    }
+}
+
+/// One table of nodes, and one for each sort of lists.
 pub(crate) struct Tables {
-    pub(crate) tys: Table<TyKind, Kept>,
-    pub(crate) consts: Table<ConstKind, Kept>,
-    pub(crate) regions: Table<RegionKind, Kept>,
-    pub(crate) type_lists: ListTable<SmallVec<Ty, 8>, Kept>,
-    pub(crate) variable_lists: ListTable<SmallVec<BoundVarKind, 8>, Kept>,
-    pub(crate) variance_lists: ListTable<SmallVec<Variance, 8>, Kept>,
-    pub(crate) empty_lists: Table<EmptyList, Kept>,
+    pub(crate) nodes: Table<Node>,
+    pub(crate) type_lists: Table<SmallVec<Ty, 8>>,
+    pub(crate) variable_lists: Table<SmallVec<BoundVarKind, 8>>,
+    pub(crate) variance_lists: Table<SmallVec<Variance, 8>>,
+    pub(crate) empty_lists: Table<EmptyList>,
 }
 
 // To drop the tables is one call, so a function that ends in several places isn't proved over each table at each of them.
 impl Drop for Tables {
     fn drop(self) {
         let Tables {
-            tys: _tys,
-            consts: _consts,
-            regions: _regions,
+            nodes: _nodes,
             type_lists: _type_lists,
             variable_lists: _variable_lists,
             variance_lists: _variance_lists,
@@ -62,6 +74,7 @@ pub(crate) struct Store {
     pub(crate) asked: u64,
     pub(crate) alloc: Global,
     pub ghost sound: { IsSound (heap_of tables) } by { sound_prop (heap_of tables) },
+    pub ghost fits: { (p : PartSeen) (s : Sketch PartSeen) → heap_of tables p ≡ Some s → layer_fits s.layer ≡ true },
     pub ghost counted: { Counts (heap_of tables) (count_of tables) } by { Counts-prop (heap_of tables) (count_of tables) },
     pub ghost few: { count_of tables ≤ (capped (limits_seen limits)).nodes },
     pub ghost low: { (p : PartSeen) → IsLive (heap_of tables) p → is_within (capped (limits_seen limits)) (tree_of (heap_of tables) p) ≡ true },
@@ -80,10 +93,9 @@ const MOST_VARIABLES: u32 = 65_535;
 
 impl Store {
     ghost use Rattle.ir_core.specs.declared.errors.TermError.TheVariants as error;
-    ghost use Rattle.ir_table.specs.Interner.{rises, stored};
+    ghost use Rattle.ir_table.specs.Interner.{stored};
     ghost use Rattle.ir_table.specs.Above.{Forbids, KeptAs, is_low};
-    ghost use Rattle.ir_table.specs.Kinds.{empty_layer, empty_part};
-    ghost use Rattle.ir_table.specs.State.{NewAnswers, capacity};
+    ghost use Rattle.ir_table.specs.State.{capacity};
     ghost use Rattle.std.specs.Prelude.{◌<◌, None, IfErr, IfOk, OnOk};
 
     /// Tables with no parts.
@@ -93,12 +105,10 @@ impl Store {
     {
         Store {
             tables: Tables {
-                tys: Table::new(alloc),
-                consts: Table::new(alloc),
-                regions: Table::new(alloc),
-                type_lists: ListTable::new(alloc),
-                variable_lists: ListTable::new(alloc),
-                variance_lists: ListTable::new(alloc),
+                nodes: Table::new(alloc),
+                type_lists: Table::new(alloc),
+                variable_lists: Table::new(alloc),
+                variance_lists: Table::new(alloc),
                 empty_lists: Table::new(alloc),
             },
             limits,
@@ -112,11 +122,10 @@ impl Store {
         ensures { result ≡ (stored self.now).count }
     {
         let tables = &self.tables;
-        let kinds = tables.tys.len() + tables.consts.len() + tables.regions.len();
         let lists = tables.type_lists.len()
             + tables.variable_lists.len()
             + tables.variance_lists.len();
-        (kinds + lists + tables.empty_lists.len()) as u64
+        (tables.nodes.len() + lists + tables.empty_lists.len()) as u64
     }
 
     // Whether the node passes no limit: its height, and the index and the number that it has by itself.
@@ -130,7 +139,7 @@ impl Store {
     }
 
     /// What is kept beside a node that isn't held, where it may be put in: it is too deep where it passes a limit, and else one too many where the tables are full.
-    pub(crate) fn admit(&self, above: Above) -> R<Kept>
+    pub(crate) fn admit(&self, above: Above) -> R<CachedInfo>
         ensures ok { IfOk result (λ c. KeptAs c above) }
         ensures low { OnOk result (is_low (capped (stored self.now).limits) above ≡ true) }
         ensures room { OnOk result ((stored self.now).count < capacity (stored self.now)) }
@@ -142,26 +151,11 @@ impl Store {
         if self.len() >= self.limits.nodes.min(MOST_NODES) {
             return Err(TermError::TooMany);
         }
-        Ok(Kept {
+        Ok(CachedInfo {
             height: above.height as u32,
             size: above.size,
             flags: above.flags,
             outer_exclusive_binder: DebruijnIndex(above.outer.min(u32::MAX as u64) as u32),
         })
-    }
-
-    /// The empty list of the sort.
-    pub(crate) fn empty_list(&mut self, sort: EmptyList) -> R<u32>
-        ensures answers { NewAnswers (empty_part sort) (stored self.old) (stored self.new) (empty_layer sort) result }
-        ensures asked { self.new.asked ≡ rises self.old.asked }
-    {
-        self.asked = self.asked.saturating_add(1);
-        if let Some(index) = self.tables.empty_lists.find(&sort) {
-            return Ok(index as u32);
-        }
-        let cached = self.admit(Above::leaf())?;
-        let index = self.tables.empty_lists.len();
-        self.tables.empty_lists.push(sort, cached)?;
-        Ok(index as u32)
     }
 }

@@ -2,13 +2,14 @@
 ghost use Rattle.ir_core.specs.declared.handles.Part.TheVariants as part;
 ghost use Rattle.ir_laws.specs.Heap.{Each, IsLive, names_in};
 ghost use Rattle.ir_table.specs.Interner.{heap};
-ghost use Rattle.ir_table.specs.Kinds.{ty_layer};
-ghost use Rattle.ir_table.specs.Spelled.{part_of};
+ghost use Rattle.ir_table.specs.Nodes.{node_layer};
+ghost use Rattle.ir_table.specs.Values.{value_names};
+ghost use Rattle.ir_table.specs.Views.{part_of, ty_node};
 ghost use Rattle.std.specs.Prelude.{◌≡◌, IfOk};
 
 use crate::{
-    Cached, Intern, InternList, Interner, Listed, Live, Names, NoNames, inputs, output, spell,
-    variables_are_listed,
+    Cached, Intern, InternList, Interner, Listed, Live, Names, NoNames, inputs, output, part_of,
+    spell, variables_are_listed,
 };
 use bitflags::Flags;
 use ir_core::{
@@ -68,7 +69,7 @@ fn last(cx: &Interner, types: &mut Vec<Ty>) -> R<Ty>
 
 /// The type of the kind, which is given back.
 fn of_kind(cx: &mut Interner, kind: TyKind) -> R<Ty>
-    requires { Each (IsLive (heap cx.old)) (names_in (ty_layer kind)) }
+    requires { Each (IsLive (heap cx.old)) (names_in (node_layer (ty_node kind))) }
 {
     let ty = Ty::new(cx, kind)?;
     if ty.kind(cx) != kind || ty.inner(cx).internee != kind {
@@ -161,23 +162,12 @@ struct Told {
     is_listed: bool,
 }
 
-/// The part of the term.
-fn part_of_term(term: AnyTerm) -> Part
-    ensures { result ≡ part_of term }
-{
-    match term {
-        AnyTerm::Ty(ty) => ty.as_part(),
-        AnyTerm::Region(region) => region.as_part(),
-        AnyTerm::Const(constant) => constant.as_part(),
-    }
-}
-
 fn tell(alloc: Global, cx: &Interner, term: AnyTerm) -> R<Told>
     requires { IsLive (heap cx.now) (part_of term) }
 {
     let mut text = Text::from_bytes(alloc, b"> ")?;
     spell(alloc, cx, &NoNames, term, &mut text)?;
-    let part = part_of_term(term);
+    let part = part_of(term);
     Ok(Told {
         text,
         counted: (
@@ -384,7 +374,7 @@ fn regions_and_constants_are_told(rt: HostRuntime) -> Result<(), Fail> {
 
 /// What the questions answer of the region that the third binder binds: whether it speaks of that binder or a further one, of a further one, of any, whether it holds an error, and whether it means the same everywhere.
 fn asked_of_a_region<T: Cached>(cx: &Interner, region: T) -> [bool; 5]
-    requires { Each (IsLive (heap cx.now)) (T.names region) }
+    requires { Each (IsLive (heap cx.now)) (value_names (T.value region)) }
 {
     let third = DebruijnIndex(2);
     [

@@ -6,7 +6,7 @@ use Rattle.ir_laws.specs.Limits.{Limits, capped}
 use Rattle.ir_laws.specs.Phrase.{Phrase}
 use Rattle.ir_table.specs.Interner.{heap, state}
 use Rattle.ir_script.specs.Answered.{AnswersForm, left_by}
-use Rattle.ir_script.specs.Scope.{names_in}
+use Rattle.ir_script.specs.Scope.{scope_names}
 use Rattle.ir_script.specs.Phrases.{form_seen, phrase_seen}
 use Rattle.ir_script.specs.Views.{exprs_in, items_of}
 use Rattle.ir_script.proofs.AnswerLemmas.{form_formed, form_is}
@@ -30,12 +30,12 @@ flags-requires-clause-formed c = form_formed (expr_list (exprs_in c.as_slice.res
 
 pub returns-in-Some-Let-clause-answers : goal.returns-in-Some-Let-clause-answers
 returns-in-Some-Let-clause-answers c held just =
-    let s = left_by (heap c.args.cx.now) (names_in c.args.scope.now) held in
+    let s = left_by (heap c.args.cx.now) (scope_names c.args.scope.now) held in
     let form : form_of c.args.line.now ≡ Some (Let c.in-Some-Let.name (phrase_seen c.in-Some-Let.phrase)) =
     form_is c.args.line.now c.as_slice.result.now (Let c.in-Some-Let.name (phrase_seen c.in-Some-Let.phrase))
     (sym c.in_ok-items.ensures.read ∙ ap (option_map (λ es. exprs_in (items_of es))) c.in-Some.is ∙ ap (λ es. Some (exprs_in es)) (sym c.as_slice.ensures))
     (sym c.in_ok-form_of_items.ensures.read ∙ ap (option_map form_seen) (c.in-Some-Let.is ∙ ap Some c.in-Some-Let.field-0-is))
     in
-    subst (λ (l : Limits). AnswersForm (capped l) (form_of c.args.line.now) s c.args.out.now c.args.out.now (heap c.declare.new.cx) (names_in c.declare.new.scope) c.declare.result) c.requires.limits
-    (subst (λ (f : Option (Form Phrase)). AnswersForm (capped (state c.args.cx.now).limits) f s c.args.out.now c.args.out.now (heap c.declare.new.cx) (names_in c.declare.new.scope) c.declare.result) (sym form)
+    subst (λ (l : Limits). AnswersForm (capped l) (form_of c.args.line.now) s c.args.out.now c.args.out.now (heap c.declare.new.cx) (scope_names c.declare.new.scope) c.declare.result) c.requires.limits
+    (subst (λ (f : Option (Form Phrase)). AnswersForm (capped (state c.args.cx.now).limits) f s c.args.out.now c.args.out.now (heap c.declare.new.cx) (scope_names c.declare.new.scope) c.declare.result) (sym form)
     (c.declare.ensures.answers held just c.args.out.now))

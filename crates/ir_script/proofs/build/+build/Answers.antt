@@ -5,20 +5,21 @@ use Rattle.ir_core.specs.declared.errors.TermError.{TermError}
 use Rattle.ir_core.specs.declared.handles.Part.{Part}
 use Rattle.ir_core.specs.declared.handles.Part.TheVariants as part
 use Rattle.ir_laws.specs.declared.labels.Sort.TheVariants.{OfType}
-use Rattle.ir_laws.specs.Environment.{field_in}
-use Rattle.ir_laws.specs.Heap.{Each}
+use Rattle.ir_laws.specs.Environment.{field_meant}
+use Rattle.ir_laws.specs.Counts.{sort_of_label}
+use Rattle.ir_laws.specs.Heap.{Each, Layer}
 use Rattle.ir_laws.specs.Phrase.{each_of}
-use Rattle.ir_table.specs.Fits.{part_sort}
+use Rattle.ir_table.specs.Fits.{part_sort, term_sort}
 use Rattle.ir_table.specs.Interner.{heap, state}
-use Rattle.ir_script.specs.Scope.{env_of, names_in}
-use Rattle.ir_table.specs.Kinds as table
+use Rattle.ir_script.specs.Scope.{env_of, scope_names}
+use Rattle.ir_table.specs.Nodes as table
 use Rattle.ir_table.proofs.CallerLemmas.{live_sort}
 use Rattle.ir_script.specs.declared.phrases.Phrase.{the_lemmas}
 use Rattle.ir_script.specs.Built.{AllSuit, Builds, BuildsAll}
 use Rattle.ir_script.specs.Causes.{no_names}
 use Rattle.ir_script.specs.Makeable.{is_nameless_field}
 use Rattle.ir_script.specs.Phrases.{field_seen, phrase_seen, phrases_seen}
-use Rattle.ir_script.proofs.BuildLemmas.{memory_is, phrase_is, own_nameless, bind_nameless, label_kids_buildable, kids_refused, binder_refused, label_types, list_binds, list_layer, label_fits, label_layer, label_live, label_made, label_refused, label_answers, BuiltSoFar, none_so_far, buildable_at, next_taken, next_makes, one_more, all_refused, all_built, built_under, name_built, name_found}
+use Rattle.ir_script.proofs.BuildLemmas.{memory_is, phrase_is, own_nameless, bind_nameless, label_kids_buildable, kids_refused, binder_refused, types_listed, none_listed, label_types, list_binds, list_layer, label_fits, label_layer, label_live, label_made, label_refused, label_answers, BuiltSoFar, none_so_far, buildable_at, next_taken, next_makes, one_more, all_refused, all_built, built_under, name_built, name_found}
 use Rattle.ir_script.proofs.ScopeLemmas.{terms_later}
 use Rattle.ir_script.proofs.MadeLemmas.{makes_memory}
 use Rattle.ir_script.proofs.build.+build.Goals as goal
@@ -27,92 +28,99 @@ use Rattle.ir_script.proofs.build.+build.Goals as goal
 
 pub build-build_all-requires : goal.build-build_all-requires
 build-build_all-requires t c =
-    let l = phrase_is (env_of (heap c.args.cx.now) (names_in c.args.scope.now)) (names_in c.args.scope.now) _ _ _ _ _ _ c.in-Labelled.is c.deref.ensures.value c.requires.buildable in
+    let l = phrase_is (env_of (heap c.args.cx.now) (scope_names c.args.scope.now)) (scope_names c.args.scope.now) _ _ _ _ _ _ c.in-Labelled.is c.deref.ensures.value c.requires.buildable in
     (search (rules, the_lemmas), (label_kids_buildable l, c.requires.terms))
 
 pub build-returns-in_err-parts : goal.build-returns-in_err-parts
 build-returns-in_err-parts t c =
-    let l = phrase_is (env_of (heap c.args.cx.now) (names_in c.args.scope.now)) (names_in c.args.scope.now) _ _ _ _ _ _ c.in-Labelled.is c.deref.ensures.value c.requires.buildable in
+    let l = phrase_is (env_of (heap c.args.cx.now) (scope_names c.args.scope.now)) (scope_names c.args.scope.now) _ _ _ _ _ _ c.in-Labelled.is c.deref.ensures.value c.requires.buildable in
     let from = err_from_is_err_and c.from_residual.result c.from_residual.ensures.1 in
     let kids = c.in_err-parts.ensures in
-    subst (λ (r : Result Part TermError). Builds (env_of (heap c.args.cx.now) (names_in c.args.scope.now)) (names_in c.args.scope.now) (state c.args.cx.now) (state c.build_all.new.cx) (phrase_seen c.args.phrase.now) r) (sym (from.1 ∙ ap Err from.2))
+    subst (λ (r : Result Part TermError). Builds (env_of (heap c.args.cx.now) (scope_names c.args.scope.now)) (scope_names c.args.scope.now) (state c.args.cx.now) (state c.build_all.new.cx) (phrase_seen c.args.phrase.now) r) (sym (from.1 ∙ ap Err from.2))
     (kids_refused l _ _ _ kids.made kids.trees kids.makes)
 
-pub build-returns-in_err-types-in-TypeList : goal.build-returns-in_err-types-in-TypeList
-build-returns-in_err-types-in-TypeList t c =
-    let l = phrase_is (env_of (heap c.args.cx.now) (names_in c.args.scope.now)) (names_in c.args.scope.now) _ _ _ _ _ _ c.in-Labelled.is c.deref.ensures.value c.requires.buildable in
-    let from = err_from_is_err_and c.from_residual-in_err-types-in-TypeList.result c.from_residual-in_err-types-in-TypeList.ensures.1 in
+pub build-returns-in_err-types : goal.build-returns-in_err-types
+build-returns-in_err-types t c =
+    let l = phrase_is (env_of (heap c.args.cx.now) (scope_names c.args.scope.now)) (scope_names c.args.scope.now) _ _ _ _ _ _ c.in-Labelled.is c.deref.ensures.value c.requires.buildable in
+    let from = err_from_is_err_and c.from_residual-in_err-types.result c.from_residual-in_err-types.ensures.1 in
     let kids = c.in_ok-parts.ensures in
-    subst (λ (r : Result Part TermError). Builds (env_of (heap c.args.cx.now) (names_in c.args.scope.now)) (names_in c.args.scope.now) (state c.args.cx.now) (state c.build_all.new.cx) (phrase_seen c.args.phrase.now) r) (sym (from.1 ∙ ap Err from.2))
-    (kids_refused l _ _ _ kids.made kids.trees (makes_memory _ _ _ _ _ (memory_is c.in_err-types-in-TypeList.ensures.err) kids.makes))
+    subst (λ (r : Result Part TermError). Builds (env_of (heap c.args.cx.now) (scope_names c.args.scope.now)) (scope_names c.args.scope.now) (state c.args.cx.now) (state c.build_all.new.cx) (phrase_seen c.args.phrase.now) r) (sym (from.1 ∙ ap Err from.2))
+    (kids_refused l _ _ _ kids.made kids.trees (makes_memory _ _ _ _ _ (memory_is c.in_err-types.ensures.err) kids.makes))
 
-pub build-returns-in_err-seen-in_default : goal.build-returns-in_err-seen-in_default
-build-returns-in_err-seen-in_default t c =
-    let l = phrase_is (env_of (heap c.args.cx.now) (names_in c.args.scope.now)) (names_in c.args.scope.now) _ _ _ _ _ _ c.in-Labelled.is c.deref.ensures.value c.requires.buildable in
-    let from = err_from_is_err_and c.from_residual-in_err-seen-in_default.result c.from_residual-in_err-seen-in_default.ensures.1 in
+pub build-returns-in_err-seen : goal.build-returns-in_err-seen
+build-returns-in_err-seen t c =
+    let l = phrase_is (env_of (heap c.args.cx.now) (scope_names c.args.scope.now)) (scope_names c.args.scope.now) _ _ _ _ _ _ c.in-Labelled.is c.deref.ensures.value c.requires.buildable in
+    let from = err_from_is_err_and c.from_residual-in_err-seen.result c.from_residual-in_err-seen.ensures.1 in
     let kids = c.in_ok-parts.ensures in
-    subst (λ (r : Result Part TermError). Builds (env_of (heap c.args.cx.now) (names_in c.args.scope.now)) (names_in c.args.scope.now) (state c.args.cx.now) (state c.build_all.new.cx) (phrase_seen c.args.phrase.now) r) (sym (from.1 ∙ ap Err from.2))
-    (kids_refused l _ _ _ kids.made kids.trees (makes_memory _ _ _ _ _ (memory_is c.in_err-seen-in_default.ensures.err) kids.makes))
+    subst (λ (r : Result Part TermError). Builds (env_of (heap c.args.cx.now) (scope_names c.args.scope.now)) (scope_names c.args.scope.now) (state c.args.cx.now) (state c.build_all.new.cx) (phrase_seen c.args.phrase.now) r) (sym (from.1 ∙ ap Err from.2))
+    (kids_refused l _ _ _ kids.made kids.trees (makes_memory _ _ _ _ _ (memory_is c.in_err-seen.ensures.err) kids.makes))
 
 pub build-types_of-requires : goal.build-types_of-requires
 build-types_of-requires t c =
-    let l = phrase_is (env_of (heap c.args.cx.now) (names_in c.args.scope.now)) (names_in c.args.scope.now) _ _ _ _ _ _ c.in-Labelled.is c.deref.ensures.value c.requires.buildable in
-    subst (Each (λ q. part_sort q ≡ OfType)) (sym c.deref-in-TypeList.ensures.value) (label_types l c.in-TypeList.is _ c.in_ok-parts.ensures.suit)
+    let l = phrase_is (env_of (heap c.args.cx.now) (scope_names c.args.scope.now)) (scope_names c.args.scope.now) _ _ _ _ _ _ c.in-Labelled.is c.deref.ensures.value c.requires.buildable in
+    subst (Each (λ q. part_sort q ≡ OfType)) (sym c.deref-then-is_list.ensures.value) (label_types l (types_listed l (sym c.is_list.ensures ∙ c.if-is_list.true)) _ c.in_ok-parts.ensures.suit)
 
-pub build-returns-in_err-list-in-TypeList : goal.build-returns-in_err-list-in-TypeList
-build-returns-in_err-list-in-TypeList t c =
-    let l = phrase_is (env_of (heap c.args.cx.now) (names_in c.args.scope.now)) (names_in c.args.scope.now) _ _ _ _ _ _ c.in-Labelled.is c.deref.ensures.value c.requires.buildable in
-    let same = ap (map part.Ty) c.deref-in-TypeList-2.ensures.value ∙ c.in_ok-types-in-TypeList.ensures.types ∙ c.deref-in-TypeList.ensures.value in
+pub build-returns-in_err-list : goal.build-returns-in_err-list
+build-returns-in_err-list t c =
+    let l = phrase_is (env_of (heap c.args.cx.now) (scope_names c.args.scope.now)) (scope_names c.args.scope.now) _ _ _ _ _ _ c.in-Labelled.is c.deref.ensures.value c.requires.buildable in
+    let same = ap (map part.Ty) c.deref-then-is_list-2.ensures.value ∙ c.in_ok-types.ensures.types ∙ c.deref-then-is_list.ensures.value in
     let store = c.build_all.new.cx.store in
-    let from = err_from_is_err_and c.from_residual-in_err-list-in-TypeList.result c.from_residual-in_err-list-in-TypeList.ensures.1 in
-    subst (λ (r : Result Part TermError). Builds (env_of (heap c.args.cx.now) (names_in c.args.scope.now)) (names_in c.args.scope.now) (state c.args.cx.now) (state c.new_from_slice.new.cx) (phrase_seen c.args.phrase.now) r) (sym (from.1 ∙ ap Err from.2))
-    (label_refused l _ _ _ _ _ c.in_ok-parts.ensures _ (list_binds l c.in-TypeList.is _) store.counted _ same _ (list_layer l c.in-TypeList.is c.deref-in-TypeList-2.result.now) _ c.in_err-list-in-TypeList.ensures.answers)
+    let from = err_from_is_err_and c.from_residual-in_err-list.result c.from_residual-in_err-list.ensures.1 in
+    subst (λ (r : Result Part TermError). Builds (env_of (heap c.args.cx.now) (scope_names c.args.scope.now)) (scope_names c.args.scope.now) (state c.args.cx.now) (state c.new_from_slice.new.cx) (phrase_seen c.args.phrase.now) r) (sym (from.1 ∙ ap Err from.2))
+    (label_refused l _ _ _ _ _ c.in_ok-parts.ensures _ (list_binds l (types_listed l (sym c.is_list.ensures ∙ c.if-is_list.true)) _) store.counted _ same _ (list_layer l (types_listed l (sym c.is_list.ensures ∙ c.if-is_list.true)) c.deref-then-is_list-2.result.now) _ c.in_err-list.ensures.answers)
 
-pub build-returns-in-TypeList : goal.build-returns-in-TypeList
-build-returns-in-TypeList t c =
-    let l = phrase_is (env_of (heap c.args.cx.now) (names_in c.args.scope.now)) (names_in c.args.scope.now) _ _ _ _ _ _ c.in-Labelled.is c.deref.ensures.value c.requires.buildable in
-    let same = ap (map part.Ty) c.deref-in-TypeList-2.ensures.value ∙ c.in_ok-types-in-TypeList.ensures.types ∙ c.deref-in-TypeList.ensures.value in
+pub build-returns-then-is_list : goal.build-returns-then-is_list
+build-returns-then-is_list t c =
+    let l = phrase_is (env_of (heap c.args.cx.now) (scope_names c.args.scope.now)) (scope_names c.args.scope.now) _ _ _ _ _ _ c.in-Labelled.is c.deref.ensures.value c.requires.buildable in
+    let same = ap (map part.Ty) c.deref-then-is_list-2.ensures.value ∙ c.in_ok-types.ensures.types ∙ c.deref-then-is_list.ensures.value in
     let old = c.build_all.new.cx.store in
     let store = c.new_from_slice.new.cx.store in
-    subst (λ (q : Part). Builds (env_of (heap c.args.cx.now) (names_in c.args.scope.now)) (names_in c.args.scope.now) (state c.args.cx.now) (state c.new_from_slice.new.cx) (phrase_seen c.args.phrase.now) (Ok q)) (sym c.as_part.ensures)
-    (label_made l _ _ _ _ _ c.in_ok-parts.ensures _ (list_binds l c.in-TypeList.is _) old.counted _ same _ (list_layer l c.in-TypeList.is c.deref-in-TypeList-2.result.now) _ (live_sort store.tables store.sound) (λ _. refl) c.in_ok-list-in-TypeList.ensures.answers)
+    subst (λ (q : Part). Builds (env_of (heap c.args.cx.now) (scope_names c.args.scope.now)) (scope_names c.args.scope.now) (state c.args.cx.now) (state c.new_from_slice.new.cx) (phrase_seen c.args.phrase.now) (Ok q)) (sym c.as_part.ensures)
+    (label_made l _ _ _ _ _ c.in_ok-parts.ensures _ (list_binds l (types_listed l (sym c.is_list.ensures ∙ c.if-is_list.true)) _) old.counted _ same _ (list_layer l (types_listed l (sym c.is_list.ensures ∙ c.if-is_list.true)) c.deref-then-is_list-2.result.now) _ (live_sort store.tables store.sound) (λ _. refl) c.in_ok-list.ensures.answers)
 
 pub build-fields_of-requires : goal.build-fields_of-requires
 build-fields_of-requires t c =
-    let l = phrase_is (env_of (heap c.args.cx.now) (names_in c.args.scope.now)) (names_in c.args.scope.now) _ _ _ _ _ _ c.in-Labelled.is c.deref.ensures.value c.requires.buildable in
-    ap (λ fs. list_all is_nameless_field (map field_seen fs)) c.deref-in_default.ensures.value ∙ own_nameless l
+    let l = phrase_is (env_of (heap c.args.cx.now) (scope_names c.args.scope.now)) (scope_names c.args.scope.now) _ _ _ _ _ _ c.in-Labelled.is c.deref.ensures.value c.requires.buildable in
+    ap (λ fs. list_all is_nameless_field (map field_seen fs)) c.deref-else-is_list.ensures.value ∙ own_nameless l
 
 pub build-binder_of-requires : goal.build-binder_of-requires
 build-binder_of-requires t c =
-    let l = phrase_is (env_of (heap c.args.cx.now) (names_in c.args.scope.now)) (names_in c.args.scope.now) _ _ _ _ _ _ c.in-Labelled.is c.deref.ensures.value c.requires.buildable in
+    let l = phrase_is (env_of (heap c.args.cx.now) (scope_names c.args.scope.now)) (scope_names c.args.scope.now) _ _ _ _ _ _ c.in-Labelled.is c.deref.ensures.value c.requires.buildable in
     bind_nameless l
 
-pub build-returns-in_err-binder-in_default : goal.build-returns-in_err-binder-in_default
-build-returns-in_err-binder-in_default t c =
-    let l = phrase_is (env_of (heap c.args.cx.now) (names_in c.args.scope.now)) (names_in c.args.scope.now) _ _ _ _ _ _ c.in-Labelled.is c.deref.ensures.value c.requires.buildable in
-    let from = err_from_is_err_and c.from_residual-in_err-binder-in_default.result c.from_residual-in_err-binder-in_default.ensures.1 in
-    subst (λ (r : Result Part TermError). Builds (env_of (heap c.args.cx.now) (names_in c.args.scope.now)) (names_in c.args.scope.now) (state c.args.cx.now) (state c.binder_of.new.cx) (phrase_seen c.args.phrase.now) r) (sym (from.1 ∙ ap Err from.2))
-    (binder_refused l _ _ _ _ _ c.in_ok-parts.ensures c.in_err-binder-in_default.ensures)
+pub build-returns-in_err-binder : goal.build-returns-in_err-binder
+build-returns-in_err-binder t c =
+    let l = phrase_is (env_of (heap c.args.cx.now) (scope_names c.args.scope.now)) (scope_names c.args.scope.now) _ _ _ _ _ _ c.in-Labelled.is c.deref.ensures.value c.requires.buildable in
+    let from = err_from_is_err_and c.from_residual-in_err-binder.result c.from_residual-in_err-binder.ensures.1 in
+    subst (λ (r : Result Part TermError). Builds (env_of (heap c.args.cx.now) (scope_names c.args.scope.now)) (scope_names c.args.scope.now) (state c.args.cx.now) (state c.binder_of.new.cx) (phrase_seen c.args.phrase.now) r) (sym (from.1 ∙ ap Err from.2))
+    (binder_refused l _ _ _ _ _ c.in_ok-parts.ensures c.in_err-binder.ensures)
 
-pub build-kind_of-requires : goal.build-kind_of-requires
-build-kind_of-requires t c =
-    let l = phrase_is (env_of (heap c.args.cx.now) (names_in c.args.scope.now)) (names_in c.args.scope.now) _ _ _ _ _ _ c.in-Labelled.is c.deref.ensures.value c.requires.buildable in
-    let fields = ap (λ fs. each_of (field_in no_names) (map field_seen fs)) (sym c.deref-in_default.ensures.value) ∙ c.in_ok-seen-in_default.ensures.fields ∙ ap (λ fs. Some (map table.field_seen fs)) (sym c.deref-in_default-2.ensures.value) in
-    label_fits l c.in_default.not-TypeList _ fields _ (subst (AllSuit (names_in c.args.scope.now) (phrases_seen c.deref.result.now)) (sym c.deref-in_default-3.ensures.value) c.in_ok-parts.ensures.suit) _ c.in_ok-binder-in_default.ensures
+pub build-new-requires : goal.build-new-requires
+build-new-requires t c =
+    let l = phrase_is (env_of (heap c.args.cx.now) (scope_names c.args.scope.now)) (scope_names c.args.scope.now) _ _ _ _ _ _ c.in-Labelled.is c.deref.ensures.value c.requires.buildable in
+    let fields = ap (λ fs. each_of (field_meant no_names) (map field_seen fs)) (sym c.deref-else-is_list.ensures.value) ∙ c.in_ok-seen.ensures.fields ∙ ap (λ fs. Some (map table.field_seen fs)) (sym c.deref-else-is_list-2.ensures.value) in
+    let fit = label_fits l (sym c.is_list.ensures ∙ c.if-is_list.false) _ fields _ (subst (AllSuit (scope_names c.args.scope.now) (phrases_seen c.deref.result.now)) (sym c.deref-else-is_list-3.ensures.value) c.in_ok-parts.ensures.suit) _ c.in_ok-binder.ensures in
+    record { fields = fit.fields; binder = fit.binder; kids = fit.kids; sort = fit.sort }
 
-pub build-part_of-requires : goal.build-part_of-requires
-build-part_of-requires t c =
-    let l = phrase_is (env_of (heap c.args.cx.now) (names_in c.args.scope.now)) (names_in c.args.scope.now) _ _ _ _ _ _ c.in-Labelled.is c.deref.ensures.value c.requires.buildable in
-    label_live l _ _ _ _ c.in_ok-parts.ensures _ c.in_ok-binder-in_default.ensures _ c.deref-in_default-3.ensures.value _ _ c.kind_of.ensures
+pub build-node-requires : goal.build-node-requires
+build-node-requires t c =
+    let l = phrase_is (env_of (heap c.args.cx.now) (scope_names c.args.scope.now)) (scope_names c.args.scope.now) _ _ _ _ _ _ c.in-Labelled.is c.deref.ensures.value c.requires.buildable in
+    let fields = ap (λ fs. each_of (field_meant no_names) (map field_seen fs)) (sym c.deref-else-is_list.ensures.value) ∙ c.in_ok-seen.ensures.fields ∙ ap (λ fs. Some (map table.field_seen fs)) (sym c.deref-else-is_list-2.ensures.value) in
+    let fit = label_fits l (sym c.is_list.ensures ∙ c.if-is_list.false) _ fields _ (subst (AllSuit (scope_names c.args.scope.now) (phrases_seen c.deref.result.now)) (sym c.deref-else-is_list-3.ensures.value) c.in_ok-parts.ensures.suit) _ c.in_ok-binder.ensures in
+    record {
+      live = label_live l _ _ _ _ c.in_ok-parts.ensures _ c.in_ok-binder.ensures _ c.deref-else-is_list-3.ensures.value _ _ c.new.ensures.layer;
+      fits = c.new.ensures.fits;
+      sort = ap (λ (o : Layer Part). is_some (term_sort (sort_of_label o.label))) c.new.ensures.layer ∙ fit.sort;
+    }
 
 pub build-returns : goal.build-returns
 build-returns t c =
-    let l = phrase_is (env_of (heap c.args.cx.now) (names_in c.args.scope.now)) (names_in c.args.scope.now) _ _ _ _ _ _ c.in-Labelled.is c.deref.ensures.value c.requires.buildable in
-    let fields = ap (λ fs. each_of (field_in no_names) (map field_seen fs)) (sym c.deref-in_default.ensures.value) ∙ c.in_ok-seen-in_default.ensures.fields ∙ ap (λ fs. Some (map table.field_seen fs)) (sym c.deref-in_default-2.ensures.value) in
-    let same = c.deref-in_default-3.ensures.value in
+    let l = phrase_is (env_of (heap c.args.cx.now) (scope_names c.args.scope.now)) (scope_names c.args.scope.now) _ _ _ _ _ _ c.in-Labelled.is c.deref.ensures.value c.requires.buildable in
+    let fields = ap (λ fs. each_of (field_meant no_names) (map field_seen fs)) (sym c.deref-else-is_list.ensures.value) ∙ c.in_ok-seen.ensures.fields ∙ ap (λ fs. Some (map table.field_seen fs)) (sym c.deref-else-is_list-2.ensures.value) in
+    let same = c.deref-else-is_list-3.ensures.value in
     let old = c.binder_of.new.cx.store in
-    let store = c.part_of.new.self.store in
-    label_answers l _ _ _ _ _ c.in_ok-parts.ensures _ c.in_ok-binder-in_default.ensures old.counted _ same _ (label_layer l _ _ _ _ c.kind_of.ensures fields) c.in_default.not-TypeList _ (live_sort store.tables store.sound) c.part_of.ensures.answers
+    let store = c.node.new.self.store in
+    label_answers l _ _ _ _ _ c.in_ok-parts.ensures _ c.in_ok-binder.ensures old.counted _ same _ (label_layer l _ _ _ _ c.new.ensures.layer fields) (none_listed l (sym c.is_list.ensures ∙ c.if-is_list.false)) _ (live_sort store.tables store.sound) c.node.ensures.answers
 
 -- ---- the kids
 
@@ -123,19 +131,19 @@ build_all-build-requires t c =
 pub build_all-returns-in_err-part : goal.build_all-returns-in_err-part
 build_all-returns-in_err-part t c =
     let from = err_from_is_err_and c.from_residual.result c.from_residual.ensures.1 in
-    subst (BuildsAll (env_of (heap c.args.cx.now) (names_in c.args.scope.now)) (names_in c.args.scope.now) (state c.args.cx.now) (state c.build.new.cx) (phrases_seen c.args.kids.now)) (sym (from.1 ∙ ap Err from.2))
+    subst (BuildsAll (env_of (heap c.args.cx.now) (scope_names c.args.scope.now)) (scope_names c.args.scope.now) (state c.args.cx.now) (state c.build.new.cx) (phrases_seen c.args.kids.now)) (sym (from.1 ∙ ap Err from.2))
     (all_refused _ _ c.requires.terms _ _ _ (c.loop-kid.kid-index + 1) _ c.requires.buildable
     (next_makes _ _ _ _ _ (next_taken _ _ _ c.loop-kid-test.true c.kid-item.is) c.loop-kid.invariant (built_under _ _ _ _ _ _ _ c.loop-kid.invariant.makes.grows c.requires.terms c.in_err-part.ensures)))
 
 pub build_all-returns-in_err-push : goal.build_all-returns-in_err-push
 build_all-returns-in_err-push t c =
     let from = err_from_is_err_and c.from_residual-in_err-push.result c.from_residual-in_err-push.ensures.1 in
-    subst (BuildsAll (env_of (heap c.args.cx.now) (names_in c.args.scope.now)) (names_in c.args.scope.now) (state c.args.cx.now) (state c.build.new.cx) (phrases_seen c.args.kids.now)) (sym from.1)
+    subst (BuildsAll (env_of (heap c.args.cx.now) (scope_names c.args.scope.now)) (scope_names c.args.scope.now) (state c.args.cx.now) (state c.build.new.cx) (phrases_seen c.args.kids.now)) (sym from.1)
     (all_refused _ _ c.requires.terms _ _ _ (c.loop-kid.kid-index + 1) _ c.requires.buildable (makes_memory _ _ _ _ _ from.2
     (next_makes _ _ _ _ _ (next_taken _ _ _ c.loop-kid-test.true c.kid-item.is) c.loop-kid.invariant (built_under _ _ _ _ _ _ _ c.loop-kid.invariant.makes.grows c.requires.terms c.in_ok-part.ensures))))
 
 pub build_all-loop-kid-init : goal.build_all-loop-kid-init
-build_all-loop-kid-init t c = subst (BuiltSoFar (env_of (heap c.args.cx.now) (names_in c.args.scope.now)) (names_in c.args.scope.now) (state c.args.cx.now) (state c.args.cx.now) []) (sym c.new-parts.ensures.items) (none_so_far _ _ _)
+build_all-loop-kid-init t c = subst (BuiltSoFar (env_of (heap c.args.cx.now) (scope_names c.args.scope.now)) (scope_names c.args.scope.now) (state c.args.cx.now) (state c.args.cx.now) []) (sym c.new-parts.ensures.items) (none_so_far _ _ _)
 
 pub build_all-loop-kid-preserved : goal.build_all-loop-kid-preserved
 build_all-loop-kid-preserved t c =

@@ -2,7 +2,7 @@ use Rattle.std.proofs.Common.{Some, Err, map, refl, sym, ap, ◌∙◌}
 use Rattle.std.proofs.lemmas.Result.{err_from_is_err_and}
 use Rattle.ir_laws.specs.Environment.{kind_in}
 use Rattle.ir_laws.specs.Phrase.{each_of}
-use Rattle.ir_table.specs.Kinds.{variable_seen}
+use Rattle.ir_table.specs.Nodes.{variable_seen}
 use Rattle.ir_script.specs.Causes.{no_names}
 use Rattle.ir_script.specs.Makeable.{is_nameless_bind}
 use Rattle.ir_script.specs.Phrases.{bind_seen, kind_seen}
@@ -25,4 +25,4 @@ pub returns : goal.returns
 returns c =
     let store = c.new_from_slice.new.cx.store in
     let found = ap (λ ks. each_of (kind_in no_names) (map kind_seen ks)) (sym c.deref.ensures.value) ∙ c.in_ok-variables.ensures.variables ∙ ap (λ vs. Some (map variable_seen vs)) (sym c.deref-2.ensures.value) in
-    bind_is _ _ _ _ c.in-Some.is refl (binds_made _ _ _ found store.tables _ refl store.sound _ c.args.cx.now.store.counted c.in_ok-list.ensures.answers)
+    bind_is _ _ _ _ c.in-Some.is refl (binds_made _ _ _ found store.tables _ refl store.sound store.fits _ c.args.cx.now.store.counted c.in_ok-list.ensures.answers)

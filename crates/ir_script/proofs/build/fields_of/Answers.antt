@@ -1,6 +1,6 @@
 use Rattle.std.proofs.Common.{Some, map, sym, ap, ◌∙◌, take_all}
 use Rattle.ir_script.specs.Causes.{no_names}
-use Rattle.ir_table.specs.Kinds as table
+use Rattle.ir_table.specs.Nodes as table
 use Rattle.ir_script.proofs.BuildLemmas.{kept, each_kept, field_at, field_same, kept_more}
 use Rattle.ir_script.proofs.build.fields_of.Goals as goal
 

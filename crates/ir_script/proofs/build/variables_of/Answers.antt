@@ -1,5 +1,5 @@
 use Rattle.std.proofs.Common.{Some, map, sym, ap, ◌∙◌, take_all}
-use Rattle.ir_table.specs.Kinds.{variable_seen}
+use Rattle.ir_table.specs.Nodes.{variable_seen}
 use Rattle.ir_script.specs.Causes.{no_names}
 use Rattle.ir_script.proofs.BuildLemmas.{kind_kept, kinds_are_kept, kind_at, kind_same, kept_more}
 use Rattle.ir_script.proofs.build.variables_of.Goals as goal

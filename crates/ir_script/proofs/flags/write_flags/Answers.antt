@@ -2,7 +2,7 @@ use Rattle.std.proofs.Common.{◌∙◌, ap, sym, [], ◌∷◌}
 use Rattle.ir_laws.specs.Flag.{flag_words}
 use Rattle.ir_laws.specs.Numeral.{numeral}
 use Rattle.ir_laws.proofs.Numerals.{numeral_is_decimal}
-use Rattle.ir_table.proofs.SpellingLemmas.{ok_last}
+use Rattle.ir_table.proofs.CallerLemmas.{ok_last}
 use Rattle.ir_script.proofs.FlagsLemmas.{flags_line}
 use Rattle.ir_script.proofs.flags.write_flags.Goals as goal
 

@@ -5,7 +5,7 @@ use Rattle.ir_laws.specs.Names.{unless}
 use Rattle.ir_laws.specs.Sorts.{kids_wanted, each_misfits}
 use Rattle.ir_script.specs.Causes.{no_names}
 use Rattle.ir_script.specs.Phrases.{phrases_seen}
-use Rattle.ir_script.specs.Scope.{term_in, env_of, names_in}
+use Rattle.ir_script.specs.Scope.{term_in, env_of, scope_names}
 use Rattle.ir_script.specs.Wanted.{wanted_seen}
 use Rattle.ir_script.proofs.CauseLemmas.{found_none}
 use Rattle.ir_script.proofs.MisfitLemmas.{suit_is, name_none, name_suits, name_wrong, unsuited, named_field, named_variable, suited_by, next_faults, fault_here, length_says, kids_find}
@@ -22,13 +22,13 @@ misfit_among-loop-kid-preserved t c = λ h terms.
 
 pub misfit_among-returns : goal.misfit_among-returns
 misfit_among-returns t c = λ h terms.
-    sym (c.loop-kid.invariant h terms) ∙ ap (λ ps. each_misfits (env_of h (names_in c.args.scope.now)) (kids_wanted no_names [] c.loop-kid.rest.now) (wanted_seen c.args.further) (phrases_seen ps)) (drop_of_length-le _ c.loop-kid-test.false)
+    sym (c.loop-kid.invariant h terms) ∙ ap (λ ps. each_misfits (env_of h (scope_names c.args.scope.now)) (kids_wanted no_names [] c.loop-kid.rest.now) (wanted_seen c.args.further) (phrases_seen ps)) (drop_of_length-le _ c.loop-kid-test.false)
 
 -- ---- a label
 
 pub misfit_in-returns-then-not-suits : goal.misfit_in-returns-then-not-suits
 misfit_in-returns-then-not-suits t c = λ h terms.
-    let ts = map (term_in h) (names_in c.args.scope.now) in
+    let ts = map (term_in h) (scope_names c.args.scope.now) in
     let l = c.in-Labelled in
     elim c.then-not-suits.branch [
       | misfit_in-then-not-suits-via-then-not-suits w ↦
@@ -41,14 +41,14 @@ misfit_in-returns-then-not-suits t c = λ h terms.
 
 pub misfit_in-returns-in-Some-length_misfit : goal.misfit_in-returns-in-Some-length_misfit
 misfit_in-returns-in-Some-length_misfit t c = λ h terms.
-    let ts = map (term_in h) (names_in c.args.scope.now) in
+    let ts = map (term_in h) (scope_names c.args.scope.now) in
     let l = c.in-Labelled in
     let suited = suited_by ts (wanted_seen c.args.wanted) l.word l.fields l.bind l.kids _ _ _ c.suits-in-Labelled.ensures c.sort_of-in-Labelled.ensures c.deref.ensures.value c.if-not-suits.false _ c.deref-else-not-suits.ensures.value (c.has_named_field.ensures.nameless ts c.if-has_named_field.false) (c.has_named_variable.ensures.nameless ts c.if-has_named_variable.false) in
     length_says ts _ l.word l.fields l.bind l.kids _ l.is suited _ _ (search rules) c.in-Some-length_misfit.ensures
 
 pub misfit_in-returns-in-None : goal.misfit_in-returns-in-None
 misfit_in-returns-in-None t c = λ h terms.
-    let ts = map (term_in h) (names_in c.args.scope.now) in
+    let ts = map (term_in h) (scope_names c.args.scope.now) in
     let l = c.in-Labelled in
     let suited = suited_by ts (wanted_seen c.args.wanted) l.word l.fields l.bind l.kids _ _ _ c.suits-in-Labelled.ensures c.sort_of-in-Labelled.ensures c.deref.ensures.value c.if-not-suits.false _ c.deref-else-not-suits.ensures.value (c.has_named_field.ensures.nameless ts c.if-has_named_field.false) (c.has_named_variable.ensures.nameless ts c.if-has_named_variable.false) in
     kids_find ts _ l.word l.fields l.bind l.kids _ l.is suited _ _ _ _ _ c.deref-in-None.ensures.value (search rules) c.in-None.ensures c.parts_of.ensures (c.further.ensures _) (c.misfit_among.ensures h terms)

@@ -6,7 +6,7 @@ use Rattle.ir_laws.specs.Limits as laws
 use Rattle.ir_laws.specs.Start.{start_parts}
 use Rattle.ir_laws.proofs.HeldLemmas.{just_counted}
 use Rattle.ir_table.specs.Interner.{stored}
-use Rattle.ir_table.specs.Kinds.{heap_of}
+use Rattle.ir_table.specs.Heaps.{heap_of}
 use Rattle.ir_table.proofs.StartLemmas.{are_named_by, start_held, start_is_held, start_too_many, start_refusal}
 use Rattle.ir_table.proofs.Interner.new.Goals as goal
 

@@ -1,20 +1,14 @@
-use Rattle.std.proofs.Common.{rules, ◌≤◌, sym, ◌∙◌, arith, map}
+use Rattle.std.proofs.Common.{rules, refl, ap, ◌≤◌, sym, ◌∙◌, arith, map}
 use Rattle.ir_laws.specs.Counts.{outer}
-use Rattle.ir_laws.specs.Heap.{tree_of}
+use Rattle.ir_laws.specs.Heap.{forest, kid_names, tree_of}
+use Rattle.ir_laws.specs.Listed.{all_fit_binder, fits_binder}
 use Rattle.ir_laws.proofs.WithinLemmas.{fits-outer}
 use Rattle.ir_table.specs.Interner.{heap}
-use Rattle.ir_table.specs.Kinds.{variable_seen}
-use Rattle.ir_table.proofs.ListedLemmas.{bare_fits, one_more_fits, type_kid}
+use Rattle.ir_table.specs.Layers.{layer_seen}
+use Rattle.ir_table.specs.Nodes.{variable_seen}
+use Rattle.ir_table.proofs.ListedLemmas.{kid_passes, kid_fails, one_more_fits}
+use Rattle.ir_table.proofs.SpellingLemmas.{kid_got}
 use Rattle.ir_table.proofs.listed.+fit.Goals as goal
-
-pub inside_fits-returns-in_default-clause-ok : goal.inside_fits-returns-in_default-clause-ok
-inside_fits-returns-in_default-clause-ok t c =
-    bare_fits c.args.cx.now.store.tables c.args.cx.now.store.sound c.args.part (map variable_seen c.args.variables.now) c.args.depth c.requires.live c.in_default.not-Ty c.in_default.not-Region c.in_default.not-Const c.in_default.not-Tys
-
-pub types_fit-part_fits-requires : goal.types_fit-part_fits-requires
-types_fit-part_fits-requires t c =
-    let kid = type_kid (heap c.args.cx.now) c.args.tys.now c.loop-ty.ty-index (record { index = 0 }) c.loop-ty-test.true c.requires.live in
-    search (rules, kid.0, kid.1)
 
 pub part_fits-returns-then-outer-depth-clause-ok : goal.part_fits-returns-then-outer-depth-clause-ok
 part_fits-returns-then-outer-depth-clause-ok t c =
@@ -24,5 +18,26 @@ part_fits-returns-then-outer-depth-clause-ok t c =
 
 pub part_fits-returns-clause-known : goal.part_fits-returns-clause-known
 part_fits-returns-clause-known t c =
-    let inside = c.in_ok-inside_fits.ensures in
-    one_more_fits (heap c.args.cx.now) (map variable_seen c.args.variables.now) c.inside_fits.new.known c.insert.new.self (record { part = c.args.part; depth = c.args.depth }) inside.known (sym inside.ok ∙ c.if-not-branch.false) c.in_ok-insert.ensures.updates
+    let ks = map variable_seen c.args.variables.now in
+    let inner = c.in_ok-layer_fits.ensures in
+    one_more_fits (heap c.args.cx.now) ks c.layer_fits.new.known c.insert.new.self (record { part = c.args.part; depth = c.args.depth }) inner.known
+    (ap (fits_binder ks c.args.depth) c.layer.ensures.layer.tree ∙ sym inner.ok ∙ c.if-not-branch.false) c.in_ok-insert.ensures.updates
+
+pub kids_fit-part_fits-requires : goal.kids_fit-part_fits-requires
+kids_fit-part_fits-requires t c =
+    let kid = kid_got (heap c.args.cx.now) (kid_names (layer_seen c.args.layer).kids) c.loop-index.index c.kid.result c.kid.ensures c.requires.live in
+    search (rules, kid.0, kid.1)
+
+pub kids_fit-returns-then-not-branch-clause-ok : goal.kids_fit-returns-then-not-branch-clause-ok
+kids_fit-returns-then-not-branch-clause-ok t c =
+    let ks = map variable_seen c.args.variables.now in
+    kid_fails (λ p. fits_binder ks c.args.depth (tree_of (heap c.args.cx.now) p)) (λ ps. all_fit_binder ks c.args.depth (forest (tree_of (heap c.args.cx.now)) ps)) (λ p ps. refl) (kid_names (layer_seen c.args.layer).kids)
+    c.loop-index.index c.kid.result c.kid.ensures c.loop-index.invariant.whole (sym c.in_ok-part_fits.ensures.ok ∙ c.if-not-branch.true)
+
+pub kids_fit-loop-index-preserved : goal.kids_fit-loop-index-preserved
+kids_fit-loop-index-preserved t c =
+    let ks = map variable_seen c.args.variables.now in record {
+      whole = kid_passes (λ p. fits_binder ks c.args.depth (tree_of (heap c.args.cx.now) p)) (λ ps. all_fit_binder ks c.args.depth (forest (tree_of (heap c.args.cx.now)) ps)) (λ p ps. refl) (kid_names (layer_seen c.args.layer).kids)
+          c.loop-index.index c.kid.result c.kid.ensures c.loop-index.invariant.whole (sym c.in_ok-part_fits.ensures.ok ∙ c.if-not-branch.false);
+      known = c.in_ok-part_fits.ensures.known;
+    }

@@ -2,7 +2,7 @@ use Rattle.std.proofs.Common.{arith, ◌≡◌, Err, OnErr}
 use Rattle.std.proofs.lemmas.Grind.{common_steps}
 use Rattle.ir_core.specs.declared.errors.TermError.TheVariants as error
 use Rattle.ir_laws.specs.Spelling.{kind_text}
-use Rattle.ir_table.specs.Kinds.{variable_seen}
+use Rattle.ir_table.specs.Nodes.{variable_seen}
 use Rattle.ir_table.specs.Spelled.{Begins, name_text}
 use Rattle.ir_table.proofs.SpellingLemmas.{begins_append, begins_more, err_after, group_begun, item_step}
 use Rattle.ir_table.proofs.spelling.spell_variables.Goals as goal

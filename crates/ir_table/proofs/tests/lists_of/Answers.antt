@@ -3,7 +3,7 @@ use Rattle.std.specs.Array.Iter.{array_into_iter_items, array_steps}
 use Rattle.ir_core.specs.declared.handles.Part.TheVariants as part
 use Rattle.ir_laws.specs.Heap.{IsLive}
 use Rattle.ir_table.specs.Interner.{heap}
-use Rattle.ir_table.proofs.CallerLemmas.{given_live, items_grow, new_grows, tried_live}
+use Rattle.ir_table.proofs.NewLemmas.{given_live, items_grow, new_grows, tried_live}
 use Rattle.ir_table.proofs.tests.lists_of.Goals as goal
 
 pub new_from_iter-requires-clause-live : goal.new_from_iter-requires-clause-live

@@ -2,7 +2,7 @@ use Rattle.std.proofs.Common.{◌≡◌, ◌∙◌, ap, map, [], ◌∷◌, ◌+
 use Rattle.std.proofs.lemmas.List.{map_push}
 use Rattle.indexmap.proofs.CallerLemmas.{insert_entry-new}
 use Rattle.ir_core.specs.declared.handles.Part.{Part}
-use Rattle.ir_script.specs.Scope.{Named, names_in, part_named}
+use Rattle.ir_script.specs.Scope.{Named, scope_names, part_named}
 use Rattle.ir_script.proofs.ScopeLemmas.{looked_up}
 use Rattle.ir_script.proofs.scope.Scope.declare.Goals as goal
 
@@ -11,7 +11,7 @@ seen e = (e.0.items, e.1)
 
 pub returns-clause-ok : goal.returns-clause-ok
 returns-clause-ok c =
-    let names = names_in c.args.self.now in
+    let names = scope_names c.args.self.now in
     let key = c.in_ok-key.key in
     let is : key.items ≡ c.args.name.now = c.in_ok-key.ensures.items in
     let absent = looked_up key.items c.args.self.now.parts.entries ∙ ap (part_named names) is ∙ c.requires in

@@ -4,7 +4,8 @@ use Rattle.ir_core.specs.declared.handles.Part.TheVariants as part
 use Rattle.ir_laws.specs.Heap.{IsLive}
 use Rattle.ir_core.specs.Flags.{bits_of}
 use Rattle.ir_table.specs.Above.{WithKids}
-use Rattle.ir_table.specs.Kinds.{heap_of, tys_kids}
+use Rattle.ir_table.specs.Heaps.{heap_of}
+use Rattle.ir_table.specs.Nodes.{tys_kids}
 use Rattle.ir_table.proofs.LoopLemmas.{item_head, item_tail, item_rest}
 use Rattle.ir_table.proofs.NodeLemmas.{tys_above, with_none, with_then}
 use Rattle.ir_table.proofs.store.Store.above_tys.Goals as goal

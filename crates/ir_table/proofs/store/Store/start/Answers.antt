@@ -1,6 +1,6 @@
 use Rattle.std.proofs.Common.{◌++◌, refl, sym, subst, arith}
 use Rattle.ir_laws.specs.Heap.{Each, nothing}
-use Rattle.ir_table.specs.Kinds.{heap_of}
+use Rattle.ir_table.specs.Heaps.{heap_of}
 use Rattle.ir_table.specs.Start.{Names, leaf_types, named_leaves, named_compounds, named_consts, named_regions, named_empty, named_lists}
 use Rattle.ir_table.proofs.StartLemmas.{after, refused_by, made, Each-append, names_later, names_each_later, names_more, name_at}
 use Rattle.ir_table.proofs.store.Store.start.Goals as goal

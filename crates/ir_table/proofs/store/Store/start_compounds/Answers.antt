@@ -12,24 +12,24 @@ returns-in_err-unit-clause-makes c =
 
 pub returns-in_err-static_str_ref-clause-makes : goal.returns-in_err-static_str_ref-clause-makes
 returns-in_err-static_str_ref-clause-makes c =
-    let made = one_more (begun c.args.self.now) ((part.Tys c.args.members, leaf TypeList) ∷ []) (c.requires.members, tt) c.ty.new.self c.in_ok-unit.ensures.answers in
+    let made = one_more (begun c.args.self.now) ((part.Tys c.args.members, leaf TypeList) ∷ []) (c.requires.members, tt) c.term.new.self c.in_ok-unit.ensures.answers in
     let ks : List Named = (part.Region c.args.statik, leaf StaticRegion) ∷ (part.Ty c.args.str, leaf StrType) ∷ [] in
     let kids = names_each_later c.in_ok-unit.ensures.answers.ok.grows ks (c.requires.statik, (c.requires.str, tt)) in
     refused_over made ks kids c.from_residual-in_err-static_str_ref.result c.in_err-static_str_ref.ensures.answers c.from_residual-in_err-static_str_ref.ensures.1 refl
 
 pub returns-in_err-mut_unit_ptr-clause-makes : goal.returns-in_err-mut_unit_ptr-clause-makes
 returns-in_err-mut_unit_ptr-clause-makes c =
-    let made = one_more (begun c.args.self.now) ((part.Tys c.args.members, leaf TypeList) ∷ []) (c.requires.members, tt) c.ty.new.self c.in_ok-unit.ensures.answers in
+    let made = one_more (begun c.args.self.now) ((part.Tys c.args.members, leaf TypeList) ∷ []) (c.requires.members, tt) c.term.new.self c.in_ok-unit.ensures.answers in
     let ks : List Named = (part.Region c.args.statik, leaf StaticRegion) ∷ (part.Ty c.args.str, leaf StrType) ∷ [] in
     let kids = names_each_later c.in_ok-unit.ensures.answers.ok.grows ks (c.requires.statik, (c.requires.str, tt)) in
-    let both = one_more made ks kids c.ty-2.new.self c.in_ok-static_str_ref.ensures.answers in
+    let both = one_more made ks kids c.term-2.new.self c.in_ok-static_str_ref.ensures.answers in
     refused_over both ((part.Ty c.in_ok-unit.unit, unit) ∷ []) (both.names.0, tt) c.from_residual-in_err-mut_unit_ptr.result c.in_err-mut_unit_ptr.ensures.answers c.from_residual-in_err-mut_unit_ptr.ensures.1 refl
 
 pub returns : goal.returns
 returns c =
-    let made = one_more (begun c.args.self.now) ((part.Tys c.args.members, leaf TypeList) ∷ []) (c.requires.members, tt) c.ty.new.self c.in_ok-unit.ensures.answers in
+    let made = one_more (begun c.args.self.now) ((part.Tys c.args.members, leaf TypeList) ∷ []) (c.requires.members, tt) c.term.new.self c.in_ok-unit.ensures.answers in
     let ks : List Named = (part.Region c.args.statik, leaf StaticRegion) ∷ (part.Ty c.args.str, leaf StrType) ∷ [] in
     let kids = names_each_later c.in_ok-unit.ensures.answers.ok.grows ks (c.requires.statik, (c.requires.str, tt)) in
-    let both = one_more made ks kids c.ty-2.new.self c.in_ok-static_str_ref.ensures.answers in
-    let all = one_more both ((part.Ty c.in_ok-unit.unit, unit) ∷ []) (both.names.0, tt) c.ty-3.new.self c.in_ok-mut_unit_ptr.ensures.answers in
+    let both = one_more made ks kids c.term-2.new.self c.in_ok-static_str_ref.ensures.answers in
+    let all = one_more both ((part.Ty c.in_ok-unit.unit, unit) ∷ []) (both.names.0, tt) c.term-3.new.self c.in_ok-mut_unit_ptr.ensures.answers in
     record { makes = done _ all; names = all.names }

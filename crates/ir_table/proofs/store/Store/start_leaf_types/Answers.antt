@@ -15,7 +15,8 @@ use Rattle.ir_laws.specs.Tree.{End, Term}
 use Rattle.ir_laws.proofs.PartSets.{no_part, part_is, part_further, part_of_cons}
 use Rattle.ir_table.specs.declared.store.Store.{Store}
 use Rattle.ir_table.specs.Interner.{stored}
-use Rattle.ir_table.specs.Kinds.{ty_layer}
+use Rattle.ir_table.specs.Nodes.{node_layer}
+use Rattle.ir_table.specs.Views.{ty_node}
 use Rattle.ir_table.specs.Start.{Named, leaf_types, name_each}
 use Rattle.ir_table.specs.State.{State, NewAnswers, Makes}
 use Rattle.ir_table.proofs.StartLemmas.{Made, also, done, layer_over, over, refused_within, trees_of}
@@ -29,11 +30,11 @@ kinds = kind.Int int.I8 ∷ kind.Int int.I16 ∷ kind.Int int.I32 ∷ kind.Int i
     ∷ kind.Bool ∷ kind.Char ∷ kind.Str ∷ kind.Never ∷ kind.Error (record {}) ∷ []
 
 abbrev tree : TyKind → Term
-tree k = over (ty_layer k).label End
+tree k = over (node_layer (ty_node k)).label End
 
 -- they have a word alone
 abbrev IsAlone : TyKind → Type 0
-IsAlone k = ty_layer k ≡ layer_over (ty_layer k).label []
+IsAlone k = node_layer (ty_node k) ≡ layer_over (node_layer (ty_node k)).label []
 
 are_alone : Each IsAlone kinds
 are_alone = (refl, (refl, (refl, (refl, (refl, (refl, (refl, (refl, (refl, (refl, (refl, (refl, (refl, (refl, (refl, (refl, (refl, (refl, (refl, (refl, (refl, tt)))))))))))))))))))))
@@ -70,23 +71,23 @@ module _ (types : List Ty) (i : ℕ) (d : TyKind) (all : length types ≡ 21) (w
   next : (x : Ty) → name_each (take i types) leaf_types ++ (part.Ty x, tree (get_or kinds i d)) ∷ [] ≡ name_each (take i types ++ x ∷ []) leaf_types
   next x = name_next (take i types) kinds i x d (length-take-le i types (omega arith)) within
 
-  leaf_made : {old : State} {mid : Store} (new : Store) (x : Ty) → Made old mid (name_each (take i types) leaf_types) → NewAnswers part.Ty (stored mid) (stored new) (ty_layer (get_or kinds i d)) (Ok x) → Made old new (name_each (take (i + 1) (set types i x)) leaf_types)
+  leaf_made : {old : State} {mid : Store} (new : Store) (x : Ty) → Made old mid (name_each (take i types) leaf_types) → NewAnswers part.Ty (stored mid) (stored new) (node_layer (ty_node (get_or kinds i d))) (Ok x) → Made old new (name_each (take (i + 1) (set types i x)) leaf_types)
   leaf_made {old = old} {mid = mid} new x so_far a = subst (Made old new) (next x ∙ ap (λ hs. name_each hs leaf_types) (sym (take_more_set types i x (omega arith))))
       (also new so_far (subst (λ l. NewAnswers part.Ty (stored mid) (stored new) l (Ok x)) alone a))
 
-  leaf_refused : {old : State} {mid : Store} {e : TermError} {V : Type 0} (new : Store) (r : Result V TermError) → Made old mid (name_each (take i types) leaf_types) → NewAnswers part.Ty (stored mid) (stored new) (ty_layer (get_or kinds i d)) (Err e) → IsErrAnd r (λ x. x ≡ e)
+  leaf_refused : {old : State} {mid : Store} {e : TermError} {V : Type 0} (new : Store) (r : Result V TermError) → Made old mid (name_each (take i types) leaf_types) → NewAnswers part.Ty (stored mid) (stored new) (node_layer (ty_node (get_or kinds i d))) (Err e) → IsErrAnd r (λ x. x ≡ e)
       → Makes old (stored new) leaf_types r
   leaf_refused {mid = mid} {e = e} new r so_far a is = refused_within so_far [] tt r (subst (λ l. NewAnswers part.Ty (stored mid) (stored new) l (Err e)) alone a) is
       (λ t m. named_among (take i types ++ record { index = 0 } ∷ []) leaf_types t
       (ap (λ ts. is_part ts t) (ap trees_of (sym (next (record { index = 0 }))) ∙ map-append (λ (n : Named). n.1) (name_each (take i types) leaf_types) _) ∙ m))
 
 pub returns-in_err-types-clause-makes : goal.returns-in_err-types-clause-makes
-returns-in_err-types-clause-makes c = leaf_refused c.loop-index.types c.loop-index.index _ c.loop-index.invariant.all c.loop-index-test.true c.ty.new.self c.from_residual.result c.loop-index.invariant.made c.in_err-types.ensures.answers c.from_residual.ensures.1
+returns-in_err-types-clause-makes c = leaf_refused c.loop-index.types c.loop-index.index _ c.loop-index.invariant.all c.loop-index-test.true c.term.new.self c.from_residual.result c.loop-index.invariant.made c.in_err-types.ensures.answers c.from_residual.ensures.1
 
 pub loop-index-preserved : goal.loop-index-preserved
 loop-index-preserved c = record {
   all = omega (arith, length-set {A = Ty});
-  made = leaf_made c.loop-index.types c.loop-index.index _ c.loop-index.invariant.all c.loop-index-test.true c.ty.new.self c.in_ok-types.field-0 c.loop-index.invariant.made c.in_ok-types.ensures.answers;
+  made = leaf_made c.loop-index.types c.loop-index.index _ c.loop-index.invariant.all c.loop-index-test.true c.term.new.self c.in_ok-types.field-0 c.loop-index.invariant.made c.in_ok-types.ensures.answers;
 }
 
 pub returns-clause-makes : goal.returns-clause-makes

@@ -1,6 +1,6 @@
 use Rattle.std.proofs.Common.{◌∙◌, sym}
 use Rattle.ir_laws.proofs.HeapLemmas.{height-tree_of, cached_size-tree_of, cached_flags-tree_of, cached_outer-tree_of}
-use Rattle.ir_table.specs.Kinds.{heap_of}
+use Rattle.ir_table.specs.Heaps.{heap_of}
 use Rattle.ir_table.proofs.store.Store.told.Goals as goal
 
 pub returns : goal.returns

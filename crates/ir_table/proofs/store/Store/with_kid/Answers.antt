@@ -2,7 +2,7 @@ use Rattle.std.proofs.Common.{◌∙◌, ap, sym, refl, arith}
 use Rattle.std.specs.Prelude.{bit_or}
 use Rattle.std.specs.Int.Bits.{or_zero_r}
 use Rattle.ir_laws.specs.Heap.{cached_flags}
-use Rattle.ir_table.specs.Kinds.{heap_of}
+use Rattle.ir_table.specs.Heaps.{heap_of}
 use Rattle.ir_table.proofs.store.Store.with_kid.Goals as goal
 
 pub returns-clause-kid : goal.returns-clause-kid

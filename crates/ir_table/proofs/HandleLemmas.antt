@@ -1,0 +1,176 @@
+-- What a call answers with a handle, and what a live handle says.
+use Rattle.std.proofs.Common.{◌≡◌, ℕ, ◌+◌, Bool, true, false, true≢false, Option, None, List, [], ◌∷◌, map, Ok, Err, Some, is_some, if◌then◌else◌, refl, sym, ap, subst, ◌∙◌}
+use Rattle.std.proofs.lemmas.Option.{same_Some}
+use Rattle.ir_core.specs.declared.errors.TermError.{TermError}
+use Rattle.ir_core.specs.declared.errors.TermError.TheVariants as error
+use Rattle.ir_core.specs.declared.handles.Part.{Part}
+use Rattle.ir_core.specs.declared.handles.Part.TheVariants as part
+use Rattle.ir_core.specs.declared.handles.Ty.{Ty}
+use Rattle.ir_core.specs.declared.variables.BoundVarKind.{BoundVarKind}
+use Rattle.ir_laws.specs.Heap.{Interns, Layer, are_kinds}
+use Rattle.ir_table.specs.declared.store.Tables.{Tables}
+use Rattle.ir_laws.specs.declared.words.Word.{Word}
+use Rattle.ir_laws.specs.declared.labels.Sort.{Sort}
+use Rattle.ir_laws.specs.declared.labels.Sort.TheVariants.{OfType, OfList}
+use Rattle.ir_laws.specs.Same.{same_sort}
+use Rattle.ir_laws.specs.Word.{same_word}
+use Rattle.ir_laws.specs.Heap.{Each}
+use Rattle.std.proofs.lemmas.Option.{none-some}
+use Rattle.ir_core.specs.Parts.{part_at}
+use Rattle.ir_table.specs.Fits.{are_keywords, are_types, fits_row, fits_sort, handle_sort, is_term, layer_fits, list_sorts, sort_among, sort_by, term_sort}
+use Rattle.ir_core.specs.declared.kinds.Variance.{Variance}
+use Rattle.ir_core.specs.declared.handles.PartSort.{PartSort}
+use Rattle.ir_core.specs.declared.handles.PartSort.TheVariants as sort
+use Rattle.ir_table.specs.declared.store.EmptyList.{EmptyList}
+use Rattle.ir_table.specs.declared.store.EmptyList.TheVariants as empty
+use Rattle.ir_table.specs.Heaps.{table_of}
+use Rattle.ir_table.specs.Owned.{nodes_table}
+use Rattle.ir_table.specs.Nodes.{empty_layer, tys_layer, variable_field, variables_layer, variance_field, variances_layer}
+use Rattle.ir_core.specs.Parts.{index_in, sort_in}
+use Rattle.ir_table.specs.State.{NewAnswers, State}
+
+module _ {T : Type 0} {at : ℕ → Part} {name : T → Part} {old new : State} {l : Layer Part} where
+  -- a handle in place of the place
+  pub handle_given : (i : ℕ) (t : T) → name t ≡ at i → NewAnswers at old new l (Ok i) → NewAnswers name old new l (Ok t)
+  handle_given i t e a = record {
+    ok = subst (Interns old.heap new.heap l) (sym e) a.ok;
+    count = subst (λ p. new.count ≡ old.count + (if is_some (old.heap p) then 0 else 1)) (sym e) a.count;
+    low = a.low;
+    room = a.room;
+    err = tt;
+    too_deep = λ f. absurd (cc f);
+    too_many = λ f. absurd (cc f);
+    memory = λ f _. absurd (cc f);
+    causes = tt;
+    limits = a.limits;
+  }
+
+  pub handle_refused : (e : TermError) → NewAnswers at old new l (Err e) → NewAnswers name old new l (Err e)
+  handle_refused e a = record {
+    ok = tt;
+    count = tt;
+    low = tt;
+    room = tt;
+    err = a.err;
+    too_deep = λ f. a.too_deep (let g : e ≡ error.TooDeep = cc f in ap Err g);
+    too_many = λ f. a.too_many (let g : e ≡ error.TooMany = cc f in ap Err g);
+    memory = λ f few. a.memory (let g : e ≡ error.Memory = cc f in ap Err g) few;
+    causes = a.causes;
+    limits = a.limits;
+  }
+
+-- lists fit
+types_are : (ts : List Ty) → are_types (map part.Ty ts) ≡ true
+types_are [] = refl
+types_are (t ∷ ts) = types_are ts
+
+pub types_fit : (ts : List Ty) → layer_fits (tys_layer ts) ≡ true
+types_fit ts = types_are ts
+
+variables_are : (vs : List BoundVarKind) → are_kinds (map variable_field vs) ≡ true
+variables_are [] = refl
+variables_are (v ∷ vs) = variables_are vs
+
+pub variables_fit : (vs : List BoundVarKind) → layer_fits (variables_layer vs) ≡ true
+variables_fit vs = let all = variables_are vs in rw all
+
+variances_are : (vs : List Variance) → are_keywords (map variance_field vs) ≡ true
+variances_are [] = refl
+variances_are (v ∷ vs) = variances_are vs
+
+pub variances_fit : (vs : List Variance) → layer_fits (variances_layer vs) ≡ true
+variances_fit vs = let all = variances_are vs in rw all
+
+pub empty_fits : (k : EmptyList) → layer_fits (empty_layer k) ≡ true
+empty_fits empty.GenericArgs = refl
+empty_fits empty.PatList = refl
+empty_fits empty.BoundExistentialPredicates = refl
+empty_fits empty.Clauses = refl
+empty_fits empty.RegionAssumptions = refl
+
+-- a term's layer fits where it fits its row
+pub fits_term : (o : Option PartSort) (l : Layer Part) → is_term o ≡ true → fits_sort o l ≡ fits_row l
+fits_term None l e = absurd (true≢false (sym e))
+fits_term (Some sort.Tys) l e = absurd (true≢false (sym e))
+fits_term (Some sort.GenericArgs) l e = absurd (true≢false (sym e))
+fits_term (Some sort.PatList) l e = absurd (true≢false (sym e))
+fits_term (Some sort.BoundExistentialPredicates) l e = absurd (true≢false (sym e))
+fits_term (Some sort.Clauses) l e = absurd (true≢false (sym e))
+fits_term (Some sort.RegionAssumptions) l e = absurd (true≢false (sym e))
+fits_term (Some sort.BoundVarKinds) l e = absurd (true≢false (sym e))
+fits_term (Some sort.VariancesOf) l e = absurd (true≢false (sym e))
+fits_term (Some _) l e = refl
+
+-- ---- sorts
+
+list_step : (s : Word × PartSort) (rest : Option PartSort) (w : Word) (g : PartSort) → OfList ≡ handle_sort s.1 → (rest ≡ Some g → OfList ≡ handle_sort g) → (b : Bool) → (if b then Some s.1 else rest) ≡ Some g → OfList ≡ handle_sort g
+list_step s rest w g here more true e = here ∙ ap handle_sort (same_Some s.1 g e)
+list_step s rest w g here more false e = more e
+
+list_back : (ss : List (Word × PartSort)) → Each (λ s. OfList ≡ handle_sort s.1) ss → (w : Word) (g : PartSort) → sort_among ss w ≡ Some g → OfList ≡ handle_sort g
+list_back [] all w g e = absurd (none-some g e)
+list_back (s ∷ ss) all w g e = list_step s (sort_among ss w) w g all.0 (list_back ss all.1 w g) (same_word s.0 w) e
+
+term_back : (s : Sort) (g : PartSort) → term_sort s ≡ Some g → s ≡ handle_sort g
+term_back OfType g e = ap handle_sort (same_Some _ g e)
+term_back _ g e = cc e
+
+pub sort_back : (s : Sort) (w : Word) (g : PartSort) → sort_by s w ≡ Some g → s ≡ handle_sort g
+sort_back OfList w g e = list_back list_sorts (refl, (refl, (refl, (refl, (refl, (refl, (refl, (refl, tt)))))))) w g e
+sort_back s w g e = term_back s g e
+
+-- the sort of a term's label is that of the handles that name it
+pub term_is : (s : Sort) → is_some (term_sort s) ≡ true → is_term (term_sort s) ≡ true
+term_is OfList e = e
+term_is _ e = e
+
+pub term_sort_by : (s : Sort) (w : Word) → is_some (term_sort s) ≡ true → term_sort s ≡ sort_by s w
+term_sort_by OfList w e = absurd (true≢false (sym e))
+term_sort_by _ w e = refl
+
+pub label_is : (s : Sort) (w : Word) → is_some (term_sort s) ≡ true → is_term (sort_by s w) ≡ true
+label_is s w e = ap is_term (sym (term_sort_by s w e)) ∙ term_is s e
+
+pub not_list : (g : PartSort) → is_term (Some g) ≡ true → same_sort (handle_sort g) OfList ≡ false
+not_list sort.Tys e = absurd (true≢false (sym e))
+not_list sort.GenericArgs e = absurd (true≢false (sym e))
+not_list sort.PatList e = absurd (true≢false (sym e))
+not_list sort.BoundExistentialPredicates e = absurd (true≢false (sym e))
+not_list sort.Clauses e = absurd (true≢false (sym e))
+not_list sort.RegionAssumptions e = absurd (true≢false (sym e))
+not_list sort.BoundVarKinds e = absurd (true≢false (sym e))
+not_list sort.VariancesOf e = absurd (true≢false (sym e))
+not_list _ e = refl
+
+pub term_of_handle : (g : PartSort) → is_term (Some g) ≡ true → term_sort (handle_sort g) ≡ Some g
+term_of_handle sort.Tys e = absurd (true≢false (sym e))
+term_of_handle sort.GenericArgs e = absurd (true≢false (sym e))
+term_of_handle sort.PatList e = absurd (true≢false (sym e))
+term_of_handle sort.BoundExistentialPredicates e = absurd (true≢false (sym e))
+term_of_handle sort.Clauses e = absurd (true≢false (sym e))
+term_of_handle sort.RegionAssumptions e = absurd (true≢false (sym e))
+term_of_handle sort.BoundVarKinds e = absurd (true≢false (sym e))
+term_of_handle sort.VariancesOf e = absurd (true≢false (sym e))
+term_of_handle _ e = refl
+
+sort_at : (g : PartSort) (i : ℕ) → sort_in (part_at g i) ≡ g
+sort_at sort.Tys i = refl
+sort_at _ i = refl
+
+index_at : (g : PartSort) (i : ℕ) → index_in (part_at g i) ≡ i
+index_at sort.Tys i = refl
+index_at _ i = refl
+
+-- where the part of a term's handle stands
+module _ (t : Tables) (p : Part) (g : PartSort) (i : ℕ) (is : p ≡ part_at g i) (term : is_term (Some g) ≡ true) where
+  pub handle_of : sort_in p ≡ g
+  handle_of = ap sort_in is ∙ sort_at g i
+
+  pub handle_table : table_of t (sort_in p) ≡ t.nodes
+  handle_table = ap (table_of t) handle_of ∙ nodes_table.own t t.nodes g term
+
+  pub handle_index : index_in p ≡ i
+  handle_index = ap index_in is ∙ index_at g i
+
+  pub handle_term : is_term (Some (sort_in p)) ≡ true
+  handle_term = ap (λ h. is_term (Some h)) handle_of ∙ term

@@ -1,5 +1,0 @@
-use Rattle.ir_table.proofs.EmptyLemmas.{no_variables}
-use Rattle.ir_table.proofs.variable_lists.BoundVarKindsInternList.empty.Goals as goal
-
-pub returns : goal.returns
-returns c = no_variables c.args.cx.now

@@ -1,5 +1,0 @@
-use Rattle.ir_table.proofs.EmptyLemmas.{no_variances}
-use Rattle.ir_table.proofs.variance_lists.VariancesOfInternList.empty.Goals as goal
-
-pub returns : goal.returns
-returns c = no_variances c.args.cx.now

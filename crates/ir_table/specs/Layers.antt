@@ -1,0 +1,32 @@
+-- What the code reads of a part, as a layer.
+use Rattle.std.specs.Prelude.{◌≡◌, Bool, true, false, List}
+use Rattle.ir_core.specs.declared.handles.Part.{Part}
+use Rattle.ir_laws.specs.Heap.{Layer, kid_names}
+use Rattle.ir_table.specs.declared.layers.List.{List as ListRead}
+use Rattle.ir_table.specs.declared.layers.List.TheVariants as list
+use Rattle.ir_table.specs.declared.layers.Layer.{Layer as LayerRead}
+use Rattle.ir_table.specs.declared.layers.Layer.TheVariants as layer
+use Rattle.ir_table.specs.Fits.{fits_row, is_term, layer_sort}
+use Rattle.ir_table.specs.Nodes.{empty_layer, node_layer, tys_layer, variables_layer, variances_layer}
+
+abbrev pub list_seen : ListRead → Layer Part
+list_seen (list.Types ts) = tys_layer ts.now
+list_seen (list.Variables vs) = variables_layer vs.now
+list_seen (list.Variances vs) = variances_layer vs.now
+list_seen (list.Empty k) = empty_layer k
+
+abbrev pub list_kids : ListRead → List Part
+list_kids l = kid_names (list_seen l).kids
+
+abbrev pub layer_seen : LayerRead → Layer Part
+layer_seen (layer.Node n) = node_layer n.now
+layer_seen (layer.List l) = list_seen l
+
+-- a node that is a part's is a term's, and fits its row
+abbrev pub FitsRow : LayerRead → Type 0
+FitsRow (layer.Node n) = (is_term (layer_sort (node_layer n.now)) ≡ true) × (fits_row (node_layer n.now) ≡ true)
+FitsRow (layer.List l) = Unit {0}
+
+abbrev pub is_node : LayerRead → Bool
+is_node (layer.Node n) = true
+is_node (layer.List l) = false
