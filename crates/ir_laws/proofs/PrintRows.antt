@@ -56,14 +56,14 @@ a_label_with_parts_is_not_bare = refl
 a_keyword_is_one_of_its_place : said (codes "print (ref safe static u8)") ≡ Refused 1 (Syntax ∷ [])
 a_keyword_is_one_of_its_place = refl
 
-an_unbuilt_label_is_no_term : said (codes "print u8\nprint (slice u8)") ≡ Refused 2 (Syntax ∷ [])
-an_unbuilt_label_is_no_term = refl
+an_unknown_label_is_no_term : said (codes "print u8\nprint (box u8)") ≡ Refused 2 (Syntax ∷ [])
+an_unknown_label_is_no_term = refl
 
-an_unbuilt_label_is_no_member : said (codes "print (tuple (u8 u16))") ≡ Refused 1 (Syntax ∷ [])
-an_unbuilt_label_is_no_member = refl
+an_unknown_label_is_no_member : said (codes "print (tuple (u8 u12))") ≡ Refused 1 (Syntax ∷ [])
+an_unknown_label_is_no_member = refl
 
-an_unbuilt_form_is_no_line : said (codes "open u8") ≡ Refused 1 (Syntax ∷ [])
-an_unbuilt_form_is_no_line = refl
+an_unknown_form_is_no_line : said (codes "close u8") ≡ Refused 1 (Syntax ∷ [])
+an_unknown_form_is_no_line = refl
 
 -- ---- names and sorts
 

@@ -39,25 +39,13 @@ module _ (items : List code.Expr) (i : ℕ) (item : code.Expr) (h : i < length i
   kinds-at = at_drop_more (λ es. kinds_in (exprs_in es)) items i item h ∙ ap (λ e. kinds_in (ThenExpr (expr_of e) (exprs_in (drop (i + 1) items)))) (sym at)
 
   module _ (ks : List VariableKind) (all : Option (List (Kind Text))) (so_far : all ≡ behind_kinds ks (kinds_in (exprs_in (drop i items)))) where
-    -- a group is no kind
-    pub no_word : (es : list.Exprs) → item ≡ code.Group es → None ≡ all
-    no_word es is = sym (so_far ∙ ap (behind_kinds ks) (kinds-at ∙ ap (λ e. kinds_in (ThenExpr e (exprs_in (drop (i + 1) items)))) (ap expr_of is ∙ expr_of-Group es)))
-
     module _ (text bytes : Text) (is : item ≡ code.Word text) (same : bytes ≡ text) where
       with_word : all ≡ behind_kinds ks (cons_if (kind_of bytes) (kinds_in (exprs_in (drop (i + 1) items))))
       with_word = so_far ∙ ap (behind_kinds ks) (kinds-at ∙ ap (λ e. kinds_in (ThenExpr (expr_of e) (exprs_in (drop (i + 1) items)))) is ∙ cons-kind text (exprs_in (drop (i + 1) items))
           ∙ ap (λ (word : Text). cons_if (kind_of word) (kinds_in (exprs_in (drop (i + 1) items)))) (sym same))
-
-      -- a word that is none
-      pub no_kind : None ≡ kind_of bytes → None ≡ all
-      no_kind none = sym (with_word ∙ ap (λ k. behind_kinds ks (cons_if k (kinds_in (exprs_in (drop (i + 1) items))))) (sym none))
 
       -- one more kind
       pub next_kind : (k : VariableKind) (new : List VariableKind) → Some (kind_seen k) ≡ kind_of bytes → new ≡ ks ++ k ∷ [] → all ≡ behind_kinds new (kinds_in (exprs_in (drop (i + 1) items)))
       next_kind k new read pushed =
           with_word ∙ ap (λ k. behind_kinds ks (cons_if k (kinds_in (exprs_in (drop (i + 1) items))))) (sym read) ∙ behind-last ks k (kinds_in (exprs_in (drop (i + 1) items)))
           ∙ ap (λ ks. behind_kinds ks (kinds_in (exprs_in (drop (i + 1) items)))) (sym pushed)
-
--- no expression is left
-pub all_kinds : (items : List code.Expr) (i : ℕ) (ks : List VariableKind) (all : Option (List (Kind Text))) → length items ≤ i → all ≡ behind_kinds ks (kinds_in (exprs_in (drop i items))) → Some (map kind_seen ks) ≡ all
-all_kinds items i ks all h so_far = sym (so_far ∙ ap (λ es. behind_kinds ks (kinds_in (exprs_in es))) (drop_all i items h) ∙ ap Some (append-nil (map kind_seen ks)))

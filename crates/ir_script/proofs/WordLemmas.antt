@@ -49,9 +49,6 @@ digits_ascii (b ∷ bs) h =
 pub numeral_utf8 : (text : Text) → is_numeral text ≡ true → IsUtf8 text
 numeral_utf8 text h = IsUtf8-from_ascii text (digits_ascii text (numeral_digits text h).0)
 
-pub not_number : (text : Text) → is_numeral text ≡ false → None ≡ number_of text
-not_number text h = sym (ap (λ b. elim b as (λ b. Option ℕ) [ true ↦ elim (nat_le (value_of_digits text) 4294967295) [ true ↦ Some (value_of_digits text) | false ↦ None ] | false ↦ None ]) h)
-
 -- what `parse` gives of a numeral
 pub number_parsed : {E : Type 0} (text : Text) (r : Result ℕ E) → is_numeral text ≡ true → ParsesUnsigned 32 10 text r → result_ok r ≡ number_of text
 number_parsed text r h parsed =

@@ -1,8 +1,6 @@
 -- What a call answers with a handle, and what a live handle says.
-use Rattle.std.proofs.Common.{◌≡◌, ℕ, ◌+◌, Bool, true, false, true≢false, Option, None, List, [], ◌∷◌, map, Ok, Err, Some, is_some, if◌then◌else◌, refl, sym, ap, subst, ◌∙◌}
+use Rattle.std.proofs.Common.{◌≡◌, ℕ, ◌+◌, Bool, true, false, true≢false, Option, None, List, [], ◌∷◌, map, Ok, Some, is_some, if◌then◌else◌, refl, sym, ap, subst, ◌∙◌}
 use Rattle.std.proofs.lemmas.Option.{same_Some}
-use Rattle.ir_core.specs.declared.errors.TermError.{TermError}
-use Rattle.ir_core.specs.declared.errors.TermError.TheVariants as error
 use Rattle.ir_core.specs.declared.handles.Part.{Part}
 use Rattle.ir_core.specs.declared.handles.Part.TheVariants as part
 use Rattle.ir_core.specs.declared.handles.Ty.{Ty}
@@ -17,15 +15,14 @@ use Rattle.ir_laws.specs.Word.{same_word}
 use Rattle.ir_laws.specs.Heap.{Each}
 use Rattle.std.proofs.lemmas.Option.{none-some}
 use Rattle.ir_core.specs.Parts.{part_at}
-use Rattle.ir_table.specs.Fits.{are_keywords, are_types, fits_row, fits_sort, handle_sort, is_term, layer_fits, list_sorts, sort_among, sort_by, term_sort}
+use Rattle.ir_laws.specs.Counts.{sort_of_label}
+use Rattle.ir_table.specs.Fits.{are_keywords, are_types, fits_row, fits_sort, handle_sort, is_term, layer_fits, layer_sort, list_sorts, sort_among, sort_by, term_sort}
 use Rattle.ir_core.specs.declared.kinds.Variance.{Variance}
 use Rattle.ir_core.specs.declared.handles.PartSort.{PartSort}
 use Rattle.ir_core.specs.declared.handles.PartSort.TheVariants as sort
-use Rattle.ir_table.specs.declared.store.EmptyList.{EmptyList}
-use Rattle.ir_table.specs.declared.store.EmptyList.TheVariants as empty
 use Rattle.ir_table.specs.Heaps.{table_of}
 use Rattle.ir_table.specs.Owned.{nodes_table}
-use Rattle.ir_table.specs.Nodes.{empty_layer, tys_layer, variable_field, variables_layer, variance_field, variances_layer}
+use Rattle.ir_table.specs.Nodes.{tys_layer, variable_field, variables_layer, variance_field, variances_layer}
 use Rattle.ir_core.specs.Parts.{index_in, sort_in}
 use Rattle.ir_table.specs.State.{NewAnswers, State}
 
@@ -42,20 +39,6 @@ module _ {T : Type 0} {at : ℕ → Part} {name : T → Part} {old new : State} 
     too_many = λ f. absurd (cc f);
     memory = λ f _. absurd (cc f);
     causes = tt;
-    limits = a.limits;
-  }
-
-  pub handle_refused : (e : TermError) → NewAnswers at old new l (Err e) → NewAnswers name old new l (Err e)
-  handle_refused e a = record {
-    ok = tt;
-    count = tt;
-    low = tt;
-    room = tt;
-    err = a.err;
-    too_deep = λ f. a.too_deep (let g : e ≡ error.TooDeep = cc f in ap Err g);
-    too_many = λ f. a.too_many (let g : e ≡ error.TooMany = cc f in ap Err g);
-    memory = λ f few. a.memory (let g : e ≡ error.Memory = cc f in ap Err g) few;
-    causes = a.causes;
     limits = a.limits;
   }
 
@@ -80,13 +63,6 @@ variances_are (v ∷ vs) = variances_are vs
 
 pub variances_fit : (vs : List Variance) → layer_fits (variances_layer vs) ≡ true
 variances_fit vs = let all = variances_are vs in rw all
-
-pub empty_fits : (k : EmptyList) → layer_fits (empty_layer k) ≡ true
-empty_fits empty.GenericArgs = refl
-empty_fits empty.PatList = refl
-empty_fits empty.BoundExistentialPredicates = refl
-empty_fits empty.Clauses = refl
-empty_fits empty.RegionAssumptions = refl
 
 -- a term's layer fits where it fits its row
 pub fits_term : (o : Option PartSort) (l : Layer Part) → is_term o ≡ true → fits_sort o l ≡ fits_row l
@@ -131,17 +107,6 @@ term_sort_by _ w e = refl
 pub label_is : (s : Sort) (w : Word) → is_some (term_sort s) ≡ true → is_term (sort_by s w) ≡ true
 label_is s w e = ap is_term (sym (term_sort_by s w e)) ∙ term_is s e
 
-pub not_list : (g : PartSort) → is_term (Some g) ≡ true → same_sort (handle_sort g) OfList ≡ false
-not_list sort.Tys e = absurd (true≢false (sym e))
-not_list sort.GenericArgs e = absurd (true≢false (sym e))
-not_list sort.PatList e = absurd (true≢false (sym e))
-not_list sort.BoundExistentialPredicates e = absurd (true≢false (sym e))
-not_list sort.Clauses e = absurd (true≢false (sym e))
-not_list sort.RegionAssumptions e = absurd (true≢false (sym e))
-not_list sort.BoundVarKinds e = absurd (true≢false (sym e))
-not_list sort.VariancesOf e = absurd (true≢false (sym e))
-not_list _ e = refl
-
 pub term_of_handle : (g : PartSort) → is_term (Some g) ≡ true → term_sort (handle_sort g) ≡ Some g
 term_of_handle sort.Tys e = absurd (true≢false (sym e))
 term_of_handle sort.GenericArgs e = absurd (true≢false (sym e))
@@ -152,6 +117,18 @@ term_of_handle sort.RegionAssumptions e = absurd (true≢false (sym e))
 term_of_handle sort.BoundVarKinds e = absurd (true≢false (sym e))
 term_of_handle sort.VariancesOf e = absurd (true≢false (sym e))
 term_of_handle _ e = refl
+
+-- a term's label has the sort of a term, so it is no list's
+pub term_label : (l : Layer Part) → is_term (layer_sort l) ≡ true → is_some (term_sort (sort_of_label l.label)) ≡ true
+term_label l term = by (layer_sort l) refl term
+  where
+    by : (o : Option PartSort) → layer_sort l ≡ o → is_term o ≡ true → is_some (term_sort (sort_of_label l.label)) ≡ true
+    by None is e = absurd (true≢false (sym e))
+    by (Some g) is e = ap (λ s. is_some (term_sort s)) (sort_back (sort_of_label l.label) l.label.word g is) ∙ ap is_some (term_of_handle g e)
+
+pub not_list : (s : Sort) → is_some (term_sort s) ≡ true → same_sort s OfList ≡ false
+not_list OfList e = absurd (true≢false (sym e))
+not_list _ e = refl
 
 sort_at : (g : PartSort) (i : ℕ) → sort_in (part_at g i) ≡ g
 sort_at sort.Tys i = refl

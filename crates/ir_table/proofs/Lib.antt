@@ -11,6 +11,7 @@ pub mod RowLemmas
 pub mod ShapeLemmas
 pub mod LoopLemmas
 pub mod NewLemmas
+pub mod RemakeLemmas
 pub mod MakesLemmas
 pub mod StartLemmas
 pub mod EmptyLemmas

@@ -1,7 +1,7 @@
 -- What a value beside a list's items says.
-use Rattle.std.proofs.Common.{◌≡◌, ℕ, ◌+◌, ◌<◌, max, min, arith, List, ◌∷◌, length, drop, get_or, ap, sym, subst, map, ◌∙◌}
+use Rattle.std.proofs.Common.{◌≡◌, ℕ, ◌+◌, ◌<◌, arith, List, ◌∷◌, length, drop, get_or, ap, subst, map, ◌∙◌}
 use Rattle.std.proofs.lemmas.List.{drop_more, length-map, get_or-map}
-use Rattle.ir_laws.specs.Heap.{Each, largest, total, size_cap}
+use Rattle.ir_laws.specs.Heap.{Each}
 
 -- one step over names, by what is left of them
 module _ {P : Type 0} (xs : List P) (i : ℕ) (d : P) (within : i < length xs) where
@@ -13,18 +13,6 @@ module _ {P : Type 0} (xs : List P) (i : ℕ) (d : P) (within : i < length xs) w
 
   pub each_tail : (F : P → Type 0) → Each F (drop i xs) → Each F (drop (i + 1) xs)
   each_tail F h = (each_step F h).1
-
-  pub largest_step : (f : P → ℕ) → largest f (drop i xs) ≡ max (f (get_or xs i d)) (largest f (drop (i + 1) xs))
-  largest_step f = ap (largest f) (drop_more xs i d within)
-
-  pub total_step : (f : P → ℕ) → total f (drop i xs) ≡ f (get_or xs i d) + total f (drop (i + 1) xs)
-  total_step f = ap (total f) (drop_more xs i d within)
-
-  pub height_step : (f : P → ℕ) (low next n : ℕ) → next ≡ max low (f (get_or xs i d)) → max low (largest f (drop i xs)) ≡ n → max next (largest f (drop (i + 1) xs)) ≡ n
-  height_step f low next n a e = let s = largest_step f in omega arith
-
-  pub size_step : (f : P → ℕ) (sum next n : ℕ) → next ≡ min (sum + f (get_or xs i d)) size_cap → min size_cap (sum + total f (drop i xs)) ≡ n → min size_cap (next + total f (drop (i + 1) xs)) ≡ n
-  size_step f sum next n a e = let s = total_step f in omega arith
 
 -- the same over items that name the parts
 module _ {P X : Type 0} (name : X → P) (xs : List X) (i : ℕ) (d : X) (within : i < length xs) where
@@ -39,14 +27,6 @@ module _ {P X : Type 0} (name : X → P) (xs : List X) (i : ℕ) (d : X) (within
 
   pub item_tail : (F : P → Type 0) → Each F (drop i (map name xs)) → Each F (drop (i + 1) (map name xs))
   item_tail F h = each_tail (map name xs) i (name d) within_map F h
-
-  pub item_height_step : (f : P → ℕ) (low next n : ℕ) → next ≡ max low (f (name (get_or xs i d))) → max low (largest f (drop i (map name xs))) ≡ n
-      → max next (largest f (drop (i + 1) (map name xs))) ≡ n
-  item_height_step f low next n a e = height_step (map name xs) i (name d) within_map f low next n (a ∙ ap (λ p. max low (f p)) (sym at_map)) e
-
-  pub item_size_step : (f : P → ℕ) (sum next n : ℕ) → next ≡ min (sum + f (name (get_or xs i d))) size_cap → min size_cap (sum + total f (drop i (map name xs))) ≡ n
-      → min size_cap (next + total f (drop (i + 1) (map name xs))) ≡ n
-  item_size_step f sum next n a e = size_step (map name xs) i (name d) within_map f sum next n (a ∙ ap (λ p. min (sum + f p) size_cap) (sym at_map)) e
 
   -- a function of what is left, one step on
   pub item_rest : {Y : Type 0} (G : List P → Y) → G (drop i (map name xs)) ≡ G (name (get_or xs i d) ∷ drop (i + 1) (map name xs))

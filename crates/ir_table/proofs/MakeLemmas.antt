@@ -1,5 +1,5 @@
 -- What the making call answers, by what each step of it answers.
-use Rattle.std.proofs.Common.{◌≡◌, ℕ, ◌<◌, ◌≤◌, Bool, true, List, [], ◌∷◌, ◌++◌, length, Result, Ok, Err, Some, sym, ap, subst, ◌∙◌}
+use Rattle.std.proofs.Common.{◌≡◌, ℕ, ◌<◌, Bool, true, List, [], ◌∷◌, ◌++◌, length, Result, Ok, Err, Some, sym, ap, subst, ◌∙◌}
 use Rattle.std.specs.Result.{OnOk, OnErr}
 use Rattle.ir_core.specs.declared.errors.TermError.{TermError}
 use Rattle.ir_core.specs.declared.errors.TermError.TheVariants as error
@@ -19,10 +19,10 @@ use Rattle.ir_table.specs.Interner.{state_of, stored}
 use Rattle.ir_table.specs.Nodes.{sketch}
 use Rattle.ir_core.specs.Parts.{part_at}
 use Rattle.ir_table.specs.Tabled.{IsTable, is_owned}
-use Rattle.ir_table.specs.State.{NewAnswers, capacity, width}
+use Rattle.ir_table.specs.State.{NewAnswers, capacity}
 use Rattle.ir_table.specs.Table.{HasNone, StandsAt}
 use Rattle.ir_table.proofs.PartLemmas.{fits_names, is_sort, node_ok, owned_sort}
-use Rattle.ir_table.proofs.SortLemmas.{IsKept, new_held, new_no_key, new_memory, new_forbidden, new_made, pushed_kept}
+use Rattle.ir_table.proofs.SortLemmas.{IsKept, new_held, new_memory, new_forbidden, new_made, pushed_kept}
 
 -- a store is kept well
 pub kept : (s : Store) → IsKept (stored s)
@@ -54,11 +54,6 @@ module _ {owns : PartSort → Bool} {entries : Tables → List (Sketch Part)} {p
   held i s = at_back (λ u. NewAnswers (part_by (layer_sort l)) (state_of u limits) (state_of u limits) l (Ok i))
       (by_sort (λ n. NewAnswers n (state_of (put t (entries t)) limits) (state_of (put t (entries t)) limits) l (Ok i))
       (λ g sort mine. new_held (is_sort table t limits l g sort mine) (entries t) well_put node_put plain i s))
-
-  pub no_key : (r : Result ℕ TermError) → r ≡ Err error.Memory → (width l ≤ 8 → ⊥) → NewAnswers (part_by (layer_sort l)) (state_of t limits) (state_of t limits) l r
-  no_key r e many = at_back (λ u. NewAnswers (part_by (layer_sort l)) (state_of u limits) (state_of u limits) l r)
-      (by_sort (λ n. NewAnswers n (state_of (put t (entries t)) limits) (state_of (put t (entries t)) limits) l r)
-      (λ g sort mine. new_no_key (is_sort table t limits l g sort mine) (entries t) well_put node_put plain r e many))
 
   module _ (absent : HasNone (entries t) l) where
     pub memory : (u : Tables) → u ≡ t → (r : Result ℕ TermError) → r ≡ Err error.Memory → NewAnswers (part_by (layer_sort l)) (state_of t limits) (state_of u limits) l r

@@ -1,5 +1,5 @@
 -- What is computed of a node, step by step.
-use Rattle.std.proofs.Common.{◌≡◌, ℕ, suc, ◌+◌, ◌-◌, ◌≤◌, min, true, false, true≢false, List, [], ◌∷◌, length, map, Option, None, Some, is_some, if◌then◌else◌, ◌⊎◌, inl, inr, refl, sym, ap, ap₂, ◌∙◌, arith, Bool}
+use Rattle.std.proofs.Common.{◌≡◌, ℕ, suc, ◌+◌, ◌-◌, ◌≤◌, min, true, false, true≢false, List, [], ◌∷◌, length, map, Option, None, Some, is_some, if◌then◌else◌, inl, inr, refl, sym, ap, ap₂, ◌∙◌, arith, Bool}
 use Rattle.std.specs.Prelude.{sum_by, bit_or, unwrap_or}
 use Rattle.std.specs.Int.Bits.{or_zero_r}
 use Rattle.std.specs.Option.{option_map}
@@ -328,15 +328,6 @@ plain_content w (content.ChosenTwo k a b) e p = plain_word (Chosen k ∷ []) ref
 plain_content w (content.BoundOne vs a) e p = plain_word [] refl refl refl refl w e
 plain_content w (content.Opened s c v a) e p = plain_word (Chosen s ∷ Chosen c ∷ Chosen v ∷ []) refl refl refl refl w e
 plain_content w (content.Signature s c v vs a) e p = plain_word (Chosen s ∷ Chosen c ∷ Chosen v ∷ []) refl refl refl refl w e
-
-pub placed_word : (w : Word) (i n : ℕ) (v : BoundVarKind) → fields_fit (field_forms (row w).parts) (Number i ∷ Number n ∷ variable_field v ∷ []) ≡ true → (w ≡ BoundVariable) ⊎ (w ≡ Placeholder)
-placed_word BoundVariable i n v e = inl refl
-placed_word Placeholder i n v e = inr refl
-placed_word w i n v e = absurd (true≢false (sym e))
-
-pub numbered_word : (w : Word) (n : ℕ) (v : BoundVarKind) → fields_fit (field_forms (row w).parts) (Number n ∷ variable_field v ∷ []) ≡ true → w ≡ CanonicalVariable
-numbered_word CanonicalVariable n v e = refl
-numbered_word w n v e = absurd (true≢false (sym e))
 
 -- the fields of nodes have no size
 fields_sizeless : (fs : List NodeField) → sum_by field_size (map field_seen fs) ≡ 0

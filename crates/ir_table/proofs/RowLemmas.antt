@@ -1,7 +1,9 @@
 -- What fits a row: the keywords of a choice, and the fields, the binder and the kids of a layer.
-use Rattle.std.proofs.Common.{◌≡◌, Bool, true, false, ◌||◌, ◌&&◌, List, [], ◌∷◌, map, Option, Some, None, is_some, ◌⊎◌, inl, inr, refl, sym, ap, ap₂, ◌∙◌, true≢false}
+use Rattle.std.proofs.Common.{◌≡◌, ℕ, zero, suc, Bool, true, false, ◌||◌, ◌&&◌, List, [], ◌∷◌, map, slice_get, slice_index_or, Option, Some, None, is_some, ◌⊎◌, inl, inr, refl, sym, ap, ap₂, ◌∙◌, true≢false}
 use Rattle.std.specs.Option.{option_map}
 use Rattle.std.proofs.lemmas.Bool.{and_parts}
+use Rattle.std.proofs.lemmas.Option.{none-some, same_Some}
+use Rattle.ir_laws.specs.declared.labels.Choice.{Choice}
 use Rattle.ir_core.specs.declared.handles.BoundVarKinds.{BoundVarKinds}
 use Rattle.ir_core.specs.declared.handles.Part.{Part}
 use Rattle.ir_core.specs.declared.handles.Part.TheVariants as part
@@ -9,7 +11,7 @@ use Rattle.ir_laws.specs.declared.labels.FieldForm.{FieldForm}
 use Rattle.ir_laws.specs.declared.labels.FieldForm.TheVariants.{OneWordOf, ANumber, AVariableKind}
 use Rattle.ir_laws.specs.declared.labels.Keyword.{Keyword}
 use Rattle.ir_laws.specs.declared.words.Word.{Word}
-use Rattle.ir_laws.specs.Keyword.{same_keyword}
+use Rattle.ir_laws.specs.Keyword.{choice_words, same_keyword}
 use Rattle.ir_laws.specs.Formed.{field_fits, fields_fit, is_keyword_among, kid_forms}
 use Rattle.ir_laws.specs.Label.{row}
 use Rattle.ir_laws.specs.Names.{field_forms}
@@ -35,6 +37,13 @@ among_two a b k e no_a no_b = elim (among_first a (b ∷ []) k e) [ inl x ↦ no
 
 pub among_four : (a b c d k : Keyword) → is_keyword_among (a ∷ b ∷ c ∷ d ∷ []) k ≡ true → (k ≡ a → ⊥) → (k ≡ b → ⊥) → (k ≡ c → ⊥) → (k ≡ d → ⊥) → ⊥
 among_four a b c d k e no_a no_b no_c no_d = elim (among_first a (b ∷ c ∷ d ∷ []) k e) [ inl x ↦ no_a x | inr y ↦ elim (among_first b (c ∷ d ∷ []) k y) [ inl x ↦ no_b x | inr z ↦ among_two c d k z no_c no_d ] ]
+
+-- the keyword at a place is one of those that the row has there
+pub keyword_fits : (forms : List FieldForm) (fs : List Field) (i : ℕ) (c : Choice) (k : Keyword) (d : Field) → are_of_forms forms fs ≡ true → slice_get forms i ≡ Some (OneWordOf c) → slice_index_or fs i d ≡ field.Chosen k → is_keyword_among (choice_words c) k ≡ true
+keyword_fits [] fs i c k d e at got = absurd (none-some (OneWordOf c) at)
+keyword_fits (form ∷ forms) [] i c k d e at got = absurd (true≢false (sym e))
+keyword_fits (form ∷ forms) (f ∷ fs) zero c k d e at got = sym (λ j. is_of_form (same_Some form (OneWordOf c) at j) (got j)) ∙ (and_parts _ _ e).0
+keyword_fits (form ∷ forms) (f ∷ fs) (suc i) c k d e at got = keyword_fits forms fs i c k d (and_parts _ _ e).1 at got
 
 -- ---- layers
 

@@ -19,7 +19,7 @@ use Rattle.ir_laws.proofs.HeapLemmas.{sound_after, extends, grows, live_only, li
 use Rattle.ir_laws.proofs.HeldLemmas.{counts_after}
 use Rattle.ir_table.proofs.AboveLemmas.{fits_above, outer_kept}
 use Rattle.ir_core.specs.declared.errors.TermError.TheVariants as error
-use Rattle.ir_table.specs.State.{State, IsNew, IsLow, NewAnswers, capacity, fits, width}
+use Rattle.ir_table.specs.State.{State, IsNew, IsLow, NewAnswers, capacity, fits}
 use Rattle.ir_table.proofs.StateLemmas.{is_new, answers_held, answers_too_many, answers_too_deep, answers_memory, answers_new}
 
 -- `put es` is the state with es as the table that has the parts of the sort g, of which l is
@@ -50,10 +50,6 @@ module _ {g : PartSort} {l : Layer Part} {put : List (Sketch Part) → State} (s
       let here = kept.low (part_at g i) (live_at (put es).heap (part_at g i) s.0 at) in
       let tree = tree_of-node (put es).heap kept.sound (part_at g i) s.0 at ∙ ap (tree_above (put es).heap) s.2 in
       answers_held (part_at g) (put es) kept.sound l node i s.0 at s.2 (ap (fits (put es)) (sym tree) ∙ here)
-
-  -- a list of more than eight, whose key takes memory
-  pub new_no_key : (r : Result ℕ TermError) → r ≡ Err error.Memory → (width l ≤ 8 → ⊥) → NewAnswers (part_at g) (put es) (put es) l r
-  new_no_key r e many = rw e (answers_memory (part_at g) (put es) kept.sound l node (put es) refl (λ few. absurd (many few)))
 
   module _ (absent : HasNone es l) where
     new_is : IsNew (put es) l

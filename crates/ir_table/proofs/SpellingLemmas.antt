@@ -1,5 +1,5 @@
 -- What stands behind a text while a part is spelled, and what remains to be spelled.
-use Rattle.std.proofs.Common.{◌≡◌, ◌∙◌, sym, ap, refl, subst, ℕ, zero, suc, ◌+◌, ◌*◌, ◌<◌, ◌≤◌, arith, Bool, true, false, true≢false, nat_eq, List, [], ◌∷◌, ◌++◌, length, get_or, take, drop, map, slice_get, codes, Option, None, Some, Result, Ok, Err, OnOk, OnErr}
+use Rattle.std.proofs.Common.{◌≡◌, ◌∙◌, sym, ap, refl, subst, ℕ, zero, suc, ◌+◌, ◌*◌, ◌<◌, ◌≤◌, arith, Bool, true, false, nat_eq, List, [], ◌∷◌, ◌++◌, length, get_or, take, drop, map, slice_get, codes, Option, None, Some, Result, Ok, Err, OnOk, OnErr}
 use Rattle.std.proofs.Math.Seq.{take-append_seam}
 use Rattle.std.proofs.lemmas.Bool.Decides.{nat_tests}
 use Rattle.std.proofs.lemmas.List.{append_assoc, append-nil, drop_more, length-take, take-append-drop, take-append-le}
@@ -11,7 +11,6 @@ use Rattle.ir_core.specs.declared.ids.SolverDefId.{SolverDefId}
 use Rattle.ir_core.specs.declared.handles.BoundVarKinds.{BoundVarKinds}
 use Rattle.ir_core.specs.declared.handles.Part.{Part}
 use Rattle.ir_core.specs.declared.handles.Part.TheVariants as part
-use Rattle.ir_core.specs.declared.handles.PartSort.{PartSort}
 use Rattle.ir_core.specs.declared.variables.BoundVarKind.{BoundVarKind}
 use Rattle.ir_laws.specs.declared.labels.Part.{Part as LabelPart}
 use Rattle.ir_laws.specs.declared.labels.Part.TheVariants.{Fixed, ForGroup, AField, AKid}
@@ -39,7 +38,7 @@ use Rattle.ir_table.specs.Fits.{is_term, layer_sort}
 use Rattle.ir_table.specs.Layers.{layer_seen, list_kids, list_seen}
 use Rattle.ir_table.specs.Nodes.{binder_in, empty_layer, kids_in, node_layer, variable_seen, variables_layer}
 use Rattle.ir_table.specs.Spelled.{Begins, IsNoList, after, after_each, kid_texts, list_text, node_text, places_text}
-use Rattle.ir_table.proofs.HandleLemmas.{not_list, sort_back}
+use Rattle.ir_table.proofs.HandleLemmas.{not_list, term_label}
 use Rattle.ir_table.proofs.NodeLemmas.{kinds_of_fields}
 
 -- ---- what was there comes first still
@@ -127,11 +126,7 @@ list_label (list.Empty k) = empty_label k
 -- a term's label is no list's
 pub no_list : (l : Layer Part) → is_term (layer_sort l) ≡ true → IsNoList l.label
 unfolding IsNoList
-no_list l term = by (layer_sort l) refl term
-  where
-    by : (o : Option PartSort) → layer_sort l ≡ o → is_term o ≡ true → same_sort (sort_of_label l.label) OfList ≡ false
-    by None is e = absurd (true≢false (sym e))
-    by (Some g) is e = ap (λ s. same_sort s OfList) (sort_back (sort_of_label l.label) l.label.word g is) ∙ not_list g e
+no_list l term = not_list (sort_of_label l.label) (term_label l term)
 
 module _ (name : SolverDefId → Text) (h : Heap Part) where
   -- what is read is spelled as the tree of its part

@@ -1,7 +1,10 @@
 -- What the code reads of a part, as a layer.
-use Rattle.std.specs.Prelude.{◌≡◌, Bool, true, false, List}
+use Rattle.std.specs.Prelude.{◌≡◌, Bool, true, false, List, Option, map}
+use Rattle.std.specs.Option.{option_map}
 use Rattle.ir_core.specs.declared.handles.Part.{Part}
-use Rattle.ir_laws.specs.Heap.{Layer, kid_names}
+use Rattle.ir_core.specs.declared.handles.PartSort.{PartSort}
+use Rattle.ir_core.specs.Parts.{sort_in}
+use Rattle.ir_laws.specs.Heap.{Heap, Layer, OfNames, kid_names}
 use Rattle.ir_table.specs.declared.layers.List.{List as ListRead}
 use Rattle.ir_table.specs.declared.layers.List.TheVariants as list
 use Rattle.ir_table.specs.declared.layers.Layer.{Layer as LayerRead}
@@ -30,3 +33,17 @@ FitsRow (layer.List l) = Unit {0}
 abbrev pub is_node : LayerRead → Bool
 is_node (layer.Node n) = true
 is_node (layer.List l) = false
+
+-- ---- the layer of a part, and that over other kids
+
+-- what the part is, where it is live
+abbrev pub layer_at : Heap Part → Part → Option (Layer Part)
+layer_at h p = option_map (λ s. s.layer) (h p)
+
+-- the layer with these kids in place of its own
+abbrev pub over_kids : Layer Part → List Part → Layer Part
+over_kids l ps = record l { kids = OfNames ps }
+
+-- the sorts of its kids
+abbrev pub kid_sorts : Layer Part → List PartSort
+kid_sorts l = map sort_in (kid_names l.kids)

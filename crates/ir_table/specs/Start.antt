@@ -1,79 +1,100 @@
 -- The handles of the start, each with its tree.
-use Rattle.std.specs.Prelude.{◌≡◌, Bool, ◌&&◌, List, [], ◌∷◌, ◌++◌, map, is_some}
+use Rattle.std.specs.Prelude.{◌≡◌, ℕ, Bool, true, ◌&&◌, List, [], ◌∷◌, ◌++◌, None, map, is_some}
 use Rattle.std.specs.List.{list_all}
 use Rattle.ir_core.specs.declared.errors.TermError.{TermError}
 use Rattle.ir_core.specs.declared.errors.TermError.TheVariants as error
 use Rattle.ir_core.specs.declared.defaults.DefaultTypes.{DefaultTypes}
-use Rattle.ir_core.specs.declared.defaults.DefaultConsts.{DefaultConsts}
-use Rattle.ir_core.specs.declared.defaults.DefaultRegions.{DefaultRegions}
 use Rattle.ir_core.specs.declared.defaults.DefaultEmpty.{DefaultEmpty}
 use Rattle.ir_core.specs.declared.defaults.DefaultAny.{DefaultAny}
-use Rattle.ir_core.specs.declared.handles.BoundVarKinds.{BoundVarKinds}
 use Rattle.ir_core.specs.declared.handles.Part.{Part}
-use Rattle.ir_core.specs.declared.handles.Ty.{Ty}
-use Rattle.ir_core.specs.declared.handles.VariancesOf.{VariancesOf}
 use Rattle.ir_core.specs.declared.handles.Part.TheVariants as part
-use Rattle.ir_laws.specs.declared.labels.Keyword.TheVariants.{Not, Mut, Invariant, Covariant}
-use Rattle.ir_laws.specs.declared.labels.Sort.TheVariants.{OfRegion}
-use Rattle.ir_laws.specs.declared.words.Word.TheVariants.{BoolType, CharType, StrType, NeverType, I8Type, I16Type, I32Type, I64Type, I128Type, ISizeType, U8Type, U16Type, U32Type, U64Type, U128Type, USizeType, F16Type, F32Type, F64Type, F128Type, ErrorType, PointerType, ReferenceType, StaticRegion, ErasedRegion, ErrorRegion, ErrorConstant, TypeList, ArgumentList, PatternList, ExistentialList, ClauseList, VariableList, VarianceList, AssumptionList}
-use Rattle.ir_laws.specs.Heap.{Heap, IsLive, tree_of}
-use Rattle.ir_laws.specs.Parts.{variable_list}
+use Rattle.ir_core.specs.declared.handles.Ty.{Ty}
+use Rattle.ir_core.specs.declared.kinds.Variance.TheVariants as variance
+use Rattle.ir_core.specs.declared.variables.BoundRegionKind.TheVariants as bound_region
+use Rattle.ir_core.specs.declared.variables.BoundVarKind.TheVariants as variable
+use Rattle.ir_laws.specs.declared.labels.Keyword.TheVariants.{Not, Mut}
+use Rattle.ir_laws.specs.declared.words.Word.TheVariants.{BoolType, CharType, StrType, NeverType, I8Type, I16Type, I32Type, I64Type, I128Type, ISizeType, U8Type, U16Type, U32Type, U64Type, U128Type, USizeType, F16Type, F32Type, F64Type, F128Type, ErrorType, PointerType, ReferenceType, StaticRegion, ErasedRegion, ErrorRegion, ErrorConstant}
+use Rattle.ir_laws.specs.Heap.{Heap, IsLive, Layer, plant, tree_of}
 use Rattle.ir_laws.specs.Same.{same_term}
 use Rattle.ir_laws.specs.Held.{HoldsJust}
-use Rattle.ir_laws.specs.Start.{start_parts, leaf, node_by, unit, variance_list}
-use Rattle.ir_laws.specs.Tree.{Environment, Term}
+use Rattle.ir_laws.specs.Start.{start_parts, leaf, node_by, unit}
+use Rattle.ir_laws.specs.Tree.{End, Term}
+use Rattle.ir_table.specs.declared.start.Leaf.{Leaf}
+use Rattle.ir_table.specs.declared.start.Leaf.TheVariants as row
+use Rattle.ir_table.specs.declared.store.EmptyList.TheVariants as empty
+use Rattle.ir_table.specs.Fits.{is_term, layer_fits, layer_sort, part_by}
+use Rattle.ir_table.specs.Nodes.{empty_layer, layer, tys_layer, variables_layer, variances_layer}
 
 -- a part and a tree
 abbrev pub Named : Type 0
 Named = Part × Term
 
--- the types of one word, in their order
-abbrev pub leaf_types : List Term
-leaf_types = map leaf (I8Type ∷ I16Type ∷ I32Type ∷ I64Type ∷ I128Type ∷ ISizeType ∷ U8Type ∷ U16Type ∷ U32Type ∷ U64Type ∷ U128Type ∷ USizeType ∷ F16Type ∷ F32Type ∷ F64Type ∷ F128Type ∷ BoolType ∷ CharType ∷ StrType ∷ NeverType ∷ ErrorType ∷ [])
+-- ---- the parts without kids
 
--- their handles
-abbrev pub leaves_of : DefaultTypes → List Ty
-leaves_of d = d.i8 ∷ d.i16 ∷ d.i32 ∷ d.i64 ∷ d.i128 ∷ d.isize ∷ d.u8 ∷ d.u16 ∷ d.u32 ∷ d.u64 ∷ d.u128 ∷ d.usize ∷ d.f16 ∷ d.f32 ∷ d.f64 ∷ d.f128 ∷ d.bool ∷ d.char ∷ d.str ∷ d.never ∷ d.error ∷ []
+abbrev pub leaf_layer : Leaf → Layer Part
+leaf_layer (row.Word w) = layer w [] []
+leaf_layer row.Types = tys_layer []
+leaf_layer row.Variables = variables_layer []
+leaf_layer row.Variances = variances_layer []
+leaf_layer row.Environment = variables_layer (variable.Region bound_region.ClosureEnv ∷ [])
+leaf_layer (row.Variance v) = variances_layer (v ∷ [])
+leaf_layer (row.Empty k) = empty_layer k
 
--- each with its tree
-abbrev pub name_each : List Ty → List Term → List Named
-name_each (h ∷ hs) (t ∷ ts) = (part.Ty h, t) ∷ name_each hs ts
-name_each hs ts = []
+abbrev pub leaf_tree : Leaf → Term
+leaf_tree l = plant (record { label = (leaf_layer l).label; bind = None }) End
 
-abbrev pub named_leaves : List Ty → List Named
-named_leaves hs = name_each hs leaf_types
+abbrev pub leaf_part : Leaf → ℕ → Part
+leaf_part l i = part_by (layer_sort (leaf_layer l)) i
+
+-- a word alone is that of a term, and its row has no more
+abbrev pub leaf_fits : Leaf → Bool
+leaf_fits (row.Word w) = is_term (layer_sort (layer w [] [])) && layer_fits (layer w [] [])
+leaf_fits l = true
+
+-- in their order
+abbrev pub leaves : List Leaf
+leaves = map row.Word (I8Type ∷ I16Type ∷ I32Type ∷ I64Type ∷ I128Type ∷ ISizeType ∷ U8Type ∷ U16Type ∷ U32Type ∷ U64Type ∷ U128Type ∷ USizeType ∷ F16Type ∷ F32Type ∷ F64Type ∷ F128Type ∷ BoolType ∷ CharType ∷ StrType ∷ NeverType ∷ ErrorType ∷ ErrorConstant ∷ ErrorRegion ∷ StaticRegion ∷ ErasedRegion ∷ [])
+    ++ row.Types ∷ row.Empty empty.GenericArgs ∷ row.Empty empty.PatList ∷ row.Empty empty.BoundExistentialPredicates ∷ row.Empty empty.Clauses ∷ row.Variables ∷ row.Variances ∷ row.Empty empty.RegionAssumptions
+    ∷ row.Variance variance.Invariant ∷ row.Variance variance.Covariant ∷ row.Environment ∷ []
+
+abbrev pub leaf_trees : List Term
+leaf_trees = map leaf_tree leaves
+
+-- each with its part, by the places of these
+abbrev pub name_leaves : List ℕ → List Leaf → List Named
+name_leaves (i ∷ is) (l ∷ ls) = (leaf_part l i, leaf_tree l) ∷ name_leaves is ls
+name_leaves is ls = []
+
+-- ---- all parts
+
+-- parts with trees, one by one
+abbrev pub name_each : List Part → List Term → List Named
+name_each (p ∷ ps) (t ∷ ts) = (p, t) ∷ name_each ps ts
+name_each ps ts = []
 
 -- the types that have kids
 abbrev pub compound_types : List Term
 compound_types = unit ∷ node_by ReferenceType Not (leaf StaticRegion ∷ leaf StrType ∷ []) ∷ node_by PointerType Mut (unit ∷ []) ∷ []
 
 abbrev pub named_compounds : (unit static_str_ref mut_unit_ptr : Ty) → List Named
-named_compounds unit static_str_ref mut_unit_ptr = name_each (unit ∷ static_str_ref ∷ mut_unit_ptr ∷ []) compound_types
+named_compounds unit static_str_ref mut_unit_ptr = name_each (map part.Ty (unit ∷ static_str_ref ∷ mut_unit_ptr ∷ [])) compound_types
 
-abbrev pub named_types : DefaultTypes → List Named
-named_types d = named_leaves (leaves_of d) ++ named_compounds d.unit d.static_str_ref d.mut_unit_ptr
+-- the parts that the handles name, in the order of the parts of the start
+abbrev pub type_parts : DefaultTypes → List Part
+type_parts d = map part.Ty (d.i8 ∷ d.i16 ∷ d.i32 ∷ d.i64 ∷ d.i128 ∷ d.isize ∷ d.u8 ∷ d.u16 ∷ d.u32 ∷ d.u64 ∷ d.u128 ∷ d.usize ∷ d.f16 ∷ d.f32 ∷ d.f64 ∷ d.f128 ∷ d.bool ∷ d.char ∷ d.str ∷ d.never ∷ d.error ∷ d.unit ∷ d.static_str_ref ∷ d.mut_unit_ptr ∷ [])
 
-abbrev pub named_consts : DefaultConsts → List Named
-named_consts d = (part.Const d.error, leaf ErrorConstant) ∷ []
+abbrev pub empty_parts : DefaultEmpty → List Part
+empty_parts d =
+    part.Tys d.tys ∷ part.GenericArgs d.generic_args ∷ part.PatList d.pat_list ∷ part.BoundExistentialPredicates d.bound_existential_predicates ∷ part.Clauses d.clauses
+    ∷ part.BoundVarKinds d.bound_var_kinds ∷ part.VariancesOf d.variances ∷ part.RegionAssumptions d.region_assumptions ∷ []
 
-abbrev pub named_regions : DefaultRegions → List Named
-named_regions d = (part.Region d.error, leaf ErrorRegion) ∷ (part.Region d.statik, leaf StaticRegion) ∷ (part.Region d.erased, leaf ErasedRegion) ∷ []
+abbrev pub handles : DefaultAny → List Part
+handles d = type_parts d.types ++ part.Const d.consts.error ∷ part.Region d.regions.error ∷ part.Region d.regions.statik ∷ part.Region d.regions.erased
+    ∷ empty_parts d.empty ++ part.VariancesOf d.one_invariant ∷ part.VariancesOf d.one_covariant ∷ part.BoundVarKinds d.coroutine_captures_by_ref_bound_var_kinds ∷ []
 
-abbrev pub named_empty : DefaultEmpty → List Named
-named_empty d =
-    (part.Tys d.tys, leaf TypeList) ∷ (part.GenericArgs d.generic_args, leaf ArgumentList) ∷ (part.PatList d.pat_list, leaf PatternList)
-    ∷ (part.BoundExistentialPredicates d.bound_existential_predicates, leaf ExistentialList) ∷ (part.Clauses d.clauses, leaf ClauseList)
-    ∷ (part.BoundVarKinds d.bound_var_kinds, leaf VariableList) ∷ (part.VariancesOf d.variances, leaf VarianceList) ∷ (part.RegionAssumptions d.region_assumptions, leaf AssumptionList)
-    ∷ []
-
-abbrev pub named_lists : VariancesOf → VariancesOf → BoundVarKinds → List Named
-named_lists invariant covariant environment =
-    (part.VariancesOf invariant, variance_list Invariant) ∷ (part.VariancesOf covariant, variance_list Covariant) ∷ (part.BoundVarKinds environment, variable_list (record { sort = OfRegion; name = Environment } ∷ [])) ∷ []
-
--- all of them
+-- each with its tree
 abbrev pub named_start : DefaultAny → List Named
-named_start d = named_types d.types ++ named_consts d.consts ++ named_regions d.regions ++ named_empty d.empty
-    ++ named_lists d.one_invariant d.one_covariant d.coroutine_captures_by_ref_bound_var_kinds
+named_start d = name_each (handles d) start_parts
 
 -- the part is live and stands for the tree
 abbrev pub Names : Heap Part → Named → Type 0

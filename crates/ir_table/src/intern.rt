@@ -48,7 +48,7 @@ impl Store {
     }
 
     // The part of the node.
-    fn node(&mut self, node: Node) -> R<Part>
+    pub(crate) fn node(&mut self, node: Node) -> R<Part>
         requires live { Each (IsLive (heap_of self.old.tables)) (names_in (node_layer node)) }
         requires fits { fits_row (node_layer node) ≡ true }
         requires sort { is_some (term_sort (sort_of_label (node_layer node).label)) ≡ true }

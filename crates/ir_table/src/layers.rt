@@ -6,7 +6,7 @@ ghost use Rattle.ir_table.specs.Above.{KeptOf};
 ghost use Rattle.ir_table.specs.Fits.{is_of, is_term, layer_sort};
 ghost use Rattle.ir_table.specs.Heaps.{heap_of, table_of};
 ghost use Rattle.ir_table.specs.Interner.{heap};
-ghost use Rattle.ir_table.specs.Layers.{FitsRow, is_node, layer_seen, list_kids, list_seen};
+ghost use Rattle.ir_table.specs.Layers.{FitsRow, is_node, layer_at, layer_seen, list_kids, list_seen};
 ghost use Rattle.ir_table.specs.Nodes.{sketch, variable_leaf};
 ghost use Rattle.std.specs.Option.{option_map};
 ghost use Rattle.std.specs.Prelude.{◌≡◌, ◌<◌, ◌↔◌, [], IfSome, IsSome, IsTrue, None, Some, length, slice_get, true, false};
@@ -198,6 +198,7 @@ impl Store {
     // What the part is.
     pub(crate) fn layer(&self, part: Part) -> Layer<'_>
         requires { IsLive (heap_of self.now.tables) part }
+        ensures at { layer_at (heap_of self.now.tables) part ≡ Some (layer_seen result) }
         ensures layer { HasNode (heap_of self.now.tables) part (layer_seen result) }
         ensures row { FitsRow result }
     {
@@ -210,6 +211,7 @@ impl Interner {
     /// What the part is, one layer deep.
     pub fn layer(&self, part: Part) -> Layer<'_>
         requires { IsLive (heap self.now) part }
+        ensures at { layer_at (heap self.now) part ≡ Some (layer_seen result) }
         ensures layer { HasNode (heap self.now) part (layer_seen result) }
         ensures row { FitsRow result }
     {

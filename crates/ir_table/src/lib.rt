@@ -12,6 +12,7 @@ mod live;
 mod make;
 mod names;
 mod nodes;
+mod remake;
 mod spelling;
 mod start;
 mod store;

@@ -170,6 +170,7 @@ impl Node {
 impl Node {
     ghost use Rattle.std.specs.Prelude.{slice_get};
     ghost use Rattle.ir_laws.specs.Heap.{leaf_of};
+    ghost use Rattle.ir_table.specs.Layers.{over_kids};
     ghost use Rattle.ir_table.specs.Nodes.{variable_leaf};
     ghost use Rattle.std.specs.Option.{option_map};
     ghost use Rattle.std.specs.Prelude.{[], IsSome, None};
@@ -282,6 +283,34 @@ impl Node {
             | Content::Signature(_, _, _, _, a)
             | Content::Opened(_, _, _, a) => Kids::One(a),
             Content::Two(a, b) | Content::ChosenTwo(_, a, b) => Kids::Two(a, b),
+        }
+    }
+
+    /// The same node over other kids, as many as its own.
+    pub fn with_kids(&self, kids: &[Part]) -> Node
+        requires { length kids.now ≡ length (kids_in self.now.content) }
+        ensures { node_layer result ≡ over_kids (node_layer self.now) kids.now }
+    {
+        let content = match self.content {
+            Content::Bare
+            | Content::Number(_)
+            | Content::Numbered(_, _)
+            | Content::Placed(_, _, _) => self.content,
+            Content::One(_) => Content::One(kids[0]),
+            Content::Two(_, _) => Content::Two(kids[0], kids[1]),
+            Content::ChosenOne(word, _) => Content::ChosenOne(word, kids[0]),
+            Content::ChosenTwo(word, _, _) => Content::ChosenTwo(word, kids[0], kids[1]),
+            Content::BoundOne(variables, _) => Content::BoundOne(variables, kids[0]),
+            Content::Signature(safety, abi, variadic, variables, _) => {
+                Content::Signature(safety, abi, variadic, variables, kids[0])
+            }
+            Content::Opened(safety, abi, variadic, _) => {
+                Content::Opened(safety, abi, variadic, kids[0])
+            }
+        };
+        Node {
+            word: self.word,
+            content,
         }
     }
 }

@@ -2,65 +2,91 @@
 ghost use Rattle.ir_core.specs.declared.handles.Part.TheVariants as part;
 ghost use Rattle.ir_laws.specs.Heap.{Each};
 ghost use Rattle.ir_laws.specs.Limits.{capped};
-ghost use Rattle.ir_laws.specs.Start.{empty_lists, leaf, start_lists, start_parts, start_regions};
-ghost use Rattle.ir_laws.specs.declared.words.Word.TheVariants.{ErrorConstant, StaticRegion, StrType, TypeList};
+ghost use Rattle.ir_laws.specs.Start.{leaf, start_parts};
+ghost use Rattle.ir_laws.specs.declared.words.Word.TheVariants.{StaticRegion, StrType, TypeList};
 ghost use Rattle.ir_table.specs.Interner.{asked, heap, state, stored};
 ghost use Rattle.ir_table.specs.Heaps.{heap_of};
 ghost use Rattle.ir_table.specs.Limits.{limits_seen};
-ghost use Rattle.ir_table.specs.Start.{
-  HoldsStart,
-  IsStartRefusal,
-  Names,
-  compound_types,
-  leaf_types,
-  named_compounds,
-  named_consts,
-  named_empty,
-  named_leaves,
-  named_lists,
-  named_regions,
-  named_start,
-  named_types,
-};
-ghost use Rattle.ir_table.specs.State.{Makes};
-ghost use Rattle.std.specs.Prelude.{◌≡◌, ◌<◌, ◌≤◌, ◌++◌, ◌∷◌, [], Err, IfErr, IfOk, OnOk};
+ghost use Rattle.ir_table.specs.Start.{HoldsStart, IsStartRefusal, Names, compound_types, leaf_fits, leaf_layer, leaf_part, leaf_trees, leaves, name_leaves, named_compounds, named_start};
+ghost use Rattle.ir_table.specs.State.{Makes, NewAnswers};
+ghost use Rattle.std.specs.Prelude.{◌≡◌, ◌<◌, ◌≤◌, ◌++◌, ◌∷◌, [], Err, IfErr, IfOk, OnOk, drop, take, true};
 
-use crate::Interner;
 use crate::store::{EmptyList, Store};
+use crate::{Content, Interner, Node};
 use ir_core::{
-    BoundExistentialPredicates, BoundRegionKind, BoundVarKind, BoundVarKinds, Clauses, ConstKind,
-    DefaultAny, DefaultConsts, DefaultEmpty, DefaultRegions, DefaultTypes, ErrorGuaranteed,
-    FloatTy, GenericArgs, IntTy, Limits, Mutability, PatList, R, Region, RegionAssumptions,
-    RegionKind, TermError, Ty, TyKind, Tys, UintTy, Variance, VariancesOf,
+    BoundExistentialPredicates, BoundRegionKind, BoundVarKind, BoundVarKinds, Clauses, Const,
+    DefaultAny, DefaultConsts, DefaultEmpty, DefaultRegions, DefaultTypes, GenericArgs, Limits,
+    Mutability, PatList, R, Region, RegionAssumptions, TermError, Ty, TyKind, Tys, Variance,
+    VariancesOf,
 };
+use ir_laws::Word;
+use smallvec::SmallVec;
 use std::alloc::Global;
 
-// The types of one word, in their order.
-const LEAF_TYPES: [TyKind; 21] = [
-    TyKind::Int(IntTy::I8),
-    TyKind::Int(IntTy::I16),
-    TyKind::Int(IntTy::I32),
-    TyKind::Int(IntTy::I64),
-    TyKind::Int(IntTy::I128),
-    TyKind::Int(IntTy::Isize),
-    TyKind::Uint(UintTy::U8),
-    TyKind::Uint(UintTy::U16),
-    TyKind::Uint(UintTy::U32),
-    TyKind::Uint(UintTy::U64),
-    TyKind::Uint(UintTy::U128),
-    TyKind::Uint(UintTy::Usize),
-    TyKind::Float(FloatTy::F16),
-    TyKind::Float(FloatTy::F32),
-    TyKind::Float(FloatTy::F64),
-    TyKind::Float(FloatTy::F128),
-    TyKind::Bool,
-    TyKind::Char,
-    TyKind::Str,
-    TyKind::Never,
-    TyKind::Error(ErrorGuaranteed),
+/// A part of the start that has no kids.
+#[derive(Clone, Copy)]
+enum Leaf {
+    /// The node of the word alone.
+    Word(Word),
+    /// The lists of types, of variables and of variances that have no items.
+    Types,
+    Variables,
+    Variances,
+    /// The list of the variable of a closure's environment.
+    Environment,
+    /// The list of one variance.
+    Variance(Variance),
+    Empty(EmptyList),
+}
+
+// The parts without kids, in the order in which they are made.
+const LEAVES: [Leaf; 36] = [
+    Leaf::Word(Word::I8Type),
+    Leaf::Word(Word::I16Type),
+    Leaf::Word(Word::I32Type),
+    Leaf::Word(Word::I64Type),
+    Leaf::Word(Word::I128Type),
+    Leaf::Word(Word::ISizeType),
+    Leaf::Word(Word::U8Type),
+    Leaf::Word(Word::U16Type),
+    Leaf::Word(Word::U32Type),
+    Leaf::Word(Word::U64Type),
+    Leaf::Word(Word::U128Type),
+    Leaf::Word(Word::USizeType),
+    Leaf::Word(Word::F16Type),
+    Leaf::Word(Word::F32Type),
+    Leaf::Word(Word::F64Type),
+    Leaf::Word(Word::F128Type),
+    Leaf::Word(Word::BoolType),
+    Leaf::Word(Word::CharType),
+    Leaf::Word(Word::StrType),
+    Leaf::Word(Word::NeverType),
+    Leaf::Word(Word::ErrorType),
+    Leaf::Word(Word::ErrorConstant),
+    Leaf::Word(Word::ErrorRegion),
+    Leaf::Word(Word::StaticRegion),
+    Leaf::Word(Word::ErasedRegion),
+    Leaf::Types,
+    Leaf::Empty(EmptyList::GenericArgs),
+    Leaf::Empty(EmptyList::PatList),
+    Leaf::Empty(EmptyList::BoundExistentialPredicates),
+    Leaf::Empty(EmptyList::Clauses),
+    Leaf::Variables,
+    Leaf::Variances,
+    Leaf::Empty(EmptyList::RegionAssumptions),
+    Leaf::Variance(Variance::Invariant),
+    Leaf::Variance(Variance::Covariant),
+    Leaf::Environment,
 ];
 
-// The types of the start that have kids: `()`, `&'static str` and `*mut ()`.
+// The places of some of them.
+const STR_TYPE: usize = 18;
+
+const STATIC_REGION: usize = 23;
+
+const NO_TYPES: usize = 25;
+
+/// The types of the start that have kids: `()`, `&'static str` and `*mut ()`.
 #[derive(Clone, Copy)]
 struct Compounds {
     unit: Ty,
@@ -68,99 +94,39 @@ struct Compounds {
     mut_unit_ptr: Ty,
 }
 
-// The lists of the start that have an item.
-#[derive(Clone, Copy)]
-struct Singletons {
-    one_invariant: VariancesOf,
-    one_covariant: VariancesOf,
-    environment: BoundVarKinds,
-}
-
 impl Store {
-    // The types of one word.
-    fn start_leaf_types(&mut self) -> R<[Ty; 21]>
-        ensures makes { Makes (stored self.old) (stored self.new) leaf_types result }
-        ensures names { IfOk result (λ ts. Each (Names (heap_of self.new.tables)) (named_leaves ts)) }
+    // Where the part without kids stands, among those of its sort.
+    fn start_leaf(&mut self, leaf: Leaf) -> R<u32>
+        requires { leaf_fits leaf ≡ true }
+        ensures answers { NewAnswers (leaf_part leaf) (stored self.old) (stored self.new) (leaf_layer leaf) result }
     {
-        let mut types = [Ty::default(); 21];
-        for (index, kind) in LEAF_TYPES.iter().enumerate() {
-            types[index] = self.term(*kind)?;
+        match leaf {
+            Leaf::Word(word) => self.make(Node {
+                word,
+                content: Content::Bare,
+            }),
+            Leaf::Types => self.make_list::<SmallVec<Ty, 8>>(&[]),
+            Leaf::Variables => self.make_list::<SmallVec<BoundVarKind, 8>>(&[]),
+            Leaf::Variances => self.make_list::<SmallVec<Variance, 8>>(&[]),
+            Leaf::Environment => {
+                let variable = BoundVarKind::Region(BoundRegionKind::ClosureEnv);
+                self.make_list::<SmallVec<BoundVarKind, 8>>(&[variable])
+            }
+            Leaf::Variance(variance) => self.make_list::<SmallVec<Variance, 8>>(&[variance]),
+            Leaf::Empty(list) => self.make(list),
         }
-        Ok(types)
     }
 
-    // The constant.
-    fn start_consts(&mut self) -> R<DefaultConsts>
-        ensures makes { Makes (stored self.old) (stored self.new) (leaf ErrorConstant ∷ []) result }
-        ensures names { IfOk result (λ d. Each (Names (heap_of self.new.tables)) (named_consts d)) }
+    // Where each of them stands.
+    fn start_leaves(&mut self) -> R<[u32; 36]>
+        ensures makes { Makes (stored self.old) (stored self.new) leaf_trees result }
+        ensures names { IfOk result (λ is. Each (Names (heap_of self.new.tables)) (name_leaves is leaves)) }
     {
-        let error = self.term(ConstKind::Error(ErrorGuaranteed))?;
-        Ok(DefaultConsts { error })
-    }
-
-    // The regions.
-    fn start_regions(&mut self) -> R<DefaultRegions>
-        ensures makes { Makes (stored self.old) (stored self.new) start_regions result }
-        ensures names { IfOk result (λ d. Each (Names (heap_of self.new.tables)) (named_regions d)) }
-    {
-        let error = self.term(RegionKind::ReError(ErrorGuaranteed))?;
-        let statik = self.term(RegionKind::ReStatic)?;
-        let erased = self.term(RegionKind::ReErased)?;
-        Ok(DefaultRegions {
-            error,
-            statik,
-            erased,
-        })
-    }
-
-    // The empty lists.
-    fn start_empty(&mut self) -> R<DefaultEmpty>
-        ensures makes { Makes (stored self.old) (stored self.new) empty_lists result }
-        ensures names { IfOk result (λ d. Each (Names (heap_of self.new.tables)) (named_empty d)) }
-    {
-        let tys = self.tys(&[])?;
-        let generic_args = GenericArgs {
-            index: self.make(EmptyList::GenericArgs)?,
-        };
-        let pat_list = PatList {
-            index: self.make(EmptyList::PatList)?,
-        };
-        let bound_existential_predicates = BoundExistentialPredicates {
-            index: self.make(EmptyList::BoundExistentialPredicates)?,
-        };
-        let clauses = Clauses {
-            index: self.make(EmptyList::Clauses)?,
-        };
-        let bound_var_kinds = self.variables(&[])?;
-        let variances = self.variances(&[])?;
-        let region_assumptions = RegionAssumptions {
-            index: self.make(EmptyList::RegionAssumptions)?,
-        };
-        Ok(DefaultEmpty {
-            tys,
-            generic_args,
-            bound_var_kinds,
-            variances,
-            pat_list,
-            bound_existential_predicates,
-            clauses,
-            region_assumptions,
-        })
-    }
-
-    // The lists of one item.
-    fn start_lists(&mut self) -> R<Singletons>
-        ensures makes { Makes (stored self.old) (stored self.new) start_lists result }
-        ensures names { IfOk result (λ d. Each (Names (heap_of self.new.tables)) (named_lists d.one_invariant d.one_covariant d.environment)) }
-    {
-        let one_invariant = self.variances(&[Variance::Invariant])?;
-        let one_covariant = self.variances(&[Variance::Covariant])?;
-        let environment = self.variables(&[BoundVarKind::Region(BoundRegionKind::ClosureEnv)])?;
-        Ok(Singletons {
-            one_invariant,
-            one_covariant,
-            environment,
-        })
+        let mut indices = [0; 36];
+        for (place, leaf) in LEAVES.iter().enumerate() {
+            indices[place] = self.start_leaf(*leaf)?;
+        }
+        Ok(indices)
     }
 
     // The types that have kids.
@@ -186,53 +152,77 @@ impl Store {
         ensures makes { Makes (stored self.old) (stored self.new) start_parts result }
         ensures names { IfOk result (λ d. Each (Names (heap_of self.new.tables)) (named_start d)) }
     {
-        let leaves = self.start_leaf_types()?;
-        let consts = self.start_consts()?;
-        let regions = self.start_regions()?;
-        let empty = self.start_empty()?;
-        let lists = self.start_lists()?;
-        let compounds = self.start_compounds(empty.tys, regions.statik, leaves[18])?;
-        Ok(DefaultAny {
-            types: default_types(&leaves, compounds),
-            consts,
-            regions,
-            empty,
-            one_invariant: lists.one_invariant,
-            one_covariant: lists.one_covariant,
-            coroutine_captures_by_ref_bound_var_kinds: lists.environment,
-        })
+        let indices = self.start_leaves()?;
+        let members = Tys {
+            index: indices[NO_TYPES],
+        };
+        let statik = Region {
+            index: indices[STATIC_REGION],
+        };
+        let str = Ty {
+            index: indices[STR_TYPE],
+        };
+        let compounds = self.start_compounds(members, statik, str)?;
+        Ok(default_any(&indices, compounds))
     }
 }
 
-// The types by their names.
-fn default_types(leaves: &[Ty; 21], compounds: Compounds) -> DefaultTypes
-    ensures { named_types result ≡ named_leaves leaves.now ++ named_compounds compounds.unit compounds.static_str_ref compounds.mut_unit_ptr }
+// The handles by their names.
+fn default_any(indices: &[u32; 36], compounds: Compounds) -> DefaultAny
+    ensures { named_start result ≡ take 21 (name_leaves indices.now leaves) ++ named_compounds compounds.unit compounds.static_str_ref compounds.mut_unit_ptr ++ drop 21 (name_leaves indices.now leaves) }
 {
-    DefaultTypes {
-        i8: leaves[0],
-        i16: leaves[1],
-        i32: leaves[2],
-        i64: leaves[3],
-        i128: leaves[4],
-        isize: leaves[5],
-        u8: leaves[6],
-        u16: leaves[7],
-        u32: leaves[8],
-        u64: leaves[9],
-        u128: leaves[10],
-        usize: leaves[11],
-        f16: leaves[12],
-        f32: leaves[13],
-        f64: leaves[14],
-        f128: leaves[15],
+    let types = DefaultTypes {
+        i8: Ty { index: indices[0] },
+        i16: Ty { index: indices[1] },
+        i32: Ty { index: indices[2] },
+        i64: Ty { index: indices[3] },
+        i128: Ty { index: indices[4] },
+        isize: Ty { index: indices[5] },
+        u8: Ty { index: indices[6] },
+        u16: Ty { index: indices[7] },
+        u32: Ty { index: indices[8] },
+        u64: Ty { index: indices[9] },
+        u128: Ty { index: indices[10] },
+        usize: Ty { index: indices[11] },
+        f16: Ty { index: indices[12] },
+        f32: Ty { index: indices[13] },
+        f64: Ty { index: indices[14] },
+        f128: Ty { index: indices[15] },
+        bool: Ty { index: indices[16] },
+        char: Ty { index: indices[17] },
+        str: Ty { index: indices[18] },
+        never: Ty { index: indices[19] },
+        error: Ty { index: indices[20] },
         unit: compounds.unit,
-        bool: leaves[16],
-        char: leaves[17],
-        str: leaves[18],
-        never: leaves[19],
-        error: leaves[20],
         static_str_ref: compounds.static_str_ref,
         mut_unit_ptr: compounds.mut_unit_ptr,
+    };
+    let consts = DefaultConsts {
+        error: Const { index: indices[21] },
+    };
+    let regions = DefaultRegions {
+        error: Region { index: indices[22] },
+        statik: Region { index: indices[23] },
+        erased: Region { index: indices[24] },
+    };
+    let empty = DefaultEmpty {
+        tys: Tys { index: indices[25] },
+        generic_args: GenericArgs { index: indices[26] },
+        pat_list: PatList { index: indices[27] },
+        bound_existential_predicates: BoundExistentialPredicates { index: indices[28] },
+        clauses: Clauses { index: indices[29] },
+        bound_var_kinds: BoundVarKinds { index: indices[30] },
+        variances: VariancesOf { index: indices[31] },
+        region_assumptions: RegionAssumptions { index: indices[32] },
+    };
+    DefaultAny {
+        types,
+        consts,
+        regions,
+        empty,
+        one_invariant: VariancesOf { index: indices[33] },
+        one_covariant: VariancesOf { index: indices[34] },
+        coroutine_captures_by_ref_bound_var_kinds: BoundVarKinds { index: indices[35] },
     }
 }
 

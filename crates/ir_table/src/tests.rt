@@ -8,8 +8,8 @@ ghost use Rattle.ir_table.specs.Views.{part_of, ty_node};
 ghost use Rattle.std.specs.Prelude.{◌≡◌, IfOk};
 
 use crate::{
-    Cached, Intern, InternList, Interner, Listed, Live, Names, NoNames, inputs, output, part_of,
-    spell, variables_are_listed,
+    Cached, Intern, InternList, Interner, Layer, List, Listed, Live, Names, NoNames, inputs,
+    output, part_of, spell, variables_are_listed,
 };
 use bitflags::Flags;
 use ir_core::{
@@ -533,5 +533,80 @@ fn lists_of_lengths(alloc: Global, lengths: [usize; 5]) -> R<(bool, u64)> {
 fn long_lists_are_found_where_they_were_put(rt: HostRuntime) -> Result<(), Fail> {
     // A list of more than eight items stands outside of its key.
     assert_eq!(rt; lists_of_lengths(rt.alloc(), [0, 8, 9, 8, 9])?, (true, 41));
+    Ok(())
+}
+
+/// The part over this one kid, where its own is one of the same sort.
+fn over_one(cx: &mut Interner, part: Part, kid: Part) -> R<Part> {
+    if !cx.holds(part) {
+        return Err(WRONG_STEPS);
+    }
+    if !cx.holds(kid) {
+        return Err(WRONG_STEPS);
+    }
+    let layer = cx.layer(part);
+    if layer.kid_count() != 1 {
+        return Err(WRONG_STEPS);
+    }
+    if layer.kid(0).sort() != kid.sort() {
+        return Err(WRONG_STEPS);
+    }
+    cx.with_kids(part, &[kid])
+}
+
+/// The list of none or two types with these the other way round.
+fn turned(cx: &mut Interner, list: Tys) -> R<Part> {
+    if !list.holds(cx) {
+        return Err(WRONG_STEPS);
+    }
+    match cx.layer(Part::Tys(list)) {
+        Layer::List(List::Types(&[])) => cx.with_kids(Part::Tys(list), &[]),
+        Layer::List(List::Types(&[a, b])) => {
+            cx.with_kids(Part::Tys(list), &[Part::Ty(b), Part::Ty(a)])
+        }
+        _ => Err(WRONG_STEPS),
+    }
+}
+
+/// Whether what the step makes of a byte is, over a bool in its place, what the step makes of that.
+fn is_made_over(alloc: Global, step: Step) -> R<bool> {
+    let mut cx = Interner::new(alloc, LIMITS)?;
+    let of_byte = made(alloc, &mut cx, &[Step::Byte, step])?;
+    let bool = Ty::new(&mut cx, TyKind::Bool)?;
+    let over = over_one(&mut cx, Part::Ty(of_byte), Part::Ty(bool))?;
+    let len = cx.len();
+    let of_bool = made(alloc, &mut cx, &[Step::Bool, step])?;
+    Ok(over == Part::Ty(of_bool) && cx.len() == len)
+}
+
+fn two_types(cx: &mut Interner, first: Ty, second: Ty) -> R<Tys> {
+    if !first.holds(cx) {
+        return Err(WRONG_STEPS);
+    }
+    if !second.holds(cx) {
+        return Err(WRONG_STEPS);
+    }
+    Tys::new_from_slice(cx, &[first, second])
+}
+
+/// Whether the list of two types turns into that of the second and the first, and twice into itself; how many calls were asked then.
+fn lists_turn(alloc: Global) -> R<(bool, u64)> {
+    let mut cx = Interner::new(alloc, LIMITS)?;
+    let bool = Ty::new(&mut cx, TyKind::Bool)?;
+    let byte = Ty::new(&mut cx, TyKind::Uint(UintTy::U8))?;
+    let none = Tys::empty(&cx);
+    let is_same = turned(&mut cx, none)? == Part::Tys(none);
+    let list = two_types(&mut cx, bool, byte)?;
+    let other = turned(&mut cx, list)?;
+    let is_turned = Part::Tys(two_types(&mut cx, byte, bool)?) == other;
+    Ok((is_same && is_turned && other != Part::Tys(list), cx.asked()))
+}
+
+#[test]
+fn parts_are_made_over_other_kids(rt: HostRuntime) -> Result<(), Fail> {
+    for step in [Step::Pointer, Step::Under(&[TYPE])] {
+        assert!(rt; is_made_over(rt.alloc(), step)?);
+    }
+    assert_eq!(rt; lists_turn(rt.alloc())?, (true, 6));
     Ok(())
 }

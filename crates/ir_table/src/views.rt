@@ -109,11 +109,15 @@ fn variable_at(word: Word, fields: &[Field], place: usize) -> BoundVarKind
     }
 }
 
-// Whether the keyword says `mut`.
-fn mutability(keyword: Keyword) -> Mutability
-    requires { is_keyword_among (choice_words choice.Mutability) keyword ≡ true }
-    ensures { keyword ≡ mutability_word result }
+// Whether the keyword at the place of the row says `mut`.
+fn mutability_at(word: Word, fields: &[Field], place: usize) -> Mutability
+    requires fits { are_of_forms (field_forms (row word).parts) fields.now ≡ true }
+    requires form { slice_get (field_forms (row word).parts) place ≡ Some (OneWordOf choice.Mutability) }
+    ensures { slice_get fields.now place ≡ Some (field.Chosen (mutability_word result)) }
 {
+    let Field::Chosen(keyword) = fields[place] else {
+        unreachable!()
+    };
     match keyword {
         Keyword::Not => Mutability::Not,
         Keyword::Mut => Mutability::Mut,
@@ -121,23 +125,15 @@ fn mutability(keyword: Keyword) -> Mutability
     }
 }
 
-// The same of the field at the place of the row.
-fn mutability_at(word: Word, fields: &[Field], place: usize) -> Mutability
+// Whether the keyword at the place of the row says `unsafe`.
+fn safety_at(word: Word, fields: &[Field], place: usize) -> Safety
     requires fits { are_of_forms (field_forms (row word).parts) fields.now ≡ true }
-    requires form { slice_get (field_forms (row word).parts) place ≡ Some (OneWordOf choice.Mutability) }
-    ensures { slice_get fields.now place ≡ Some (field.Chosen (mutability_word result)) }
+    requires form { slice_get (field_forms (row word).parts) place ≡ Some (OneWordOf choice.Safety) }
+    ensures { slice_get fields.now place ≡ Some (field.Chosen (safety_word result)) }
 {
-    match fields[place] {
-        Field::Chosen(keyword) => mutability(keyword),
-        _ => unreachable!(),
-    }
-}
-
-// Whether the keyword says `unsafe`.
-fn safety(keyword: Keyword) -> Safety
-    requires { is_keyword_among (choice_words choice.Safety) keyword ≡ true }
-    ensures { keyword ≡ safety_word result }
-{
+    let Field::Chosen(keyword) = fields[place] else {
+        unreachable!()
+    };
     match keyword {
         Keyword::Safe => Safety::Safe,
         Keyword::Unsafe => Safety::Unsafe,
@@ -145,23 +141,15 @@ fn safety(keyword: Keyword) -> Safety
     }
 }
 
-// The same of the field at the place of the row.
-fn safety_at(word: Word, fields: &[Field], place: usize) -> Safety
+// The calling convention that the keyword at the place of the row says.
+fn abi_at(word: Word, fields: &[Field], place: usize) -> FnAbi
     requires fits { are_of_forms (field_forms (row word).parts) fields.now ≡ true }
-    requires form { slice_get (field_forms (row word).parts) place ≡ Some (OneWordOf choice.Safety) }
-    ensures { slice_get fields.now place ≡ Some (field.Chosen (safety_word result)) }
+    requires form { slice_get (field_forms (row word).parts) place ≡ Some (OneWordOf choice.Abi) }
+    ensures { slice_get fields.now place ≡ Some (field.Chosen (abi_word result)) }
 {
-    match fields[place] {
-        Field::Chosen(keyword) => safety(keyword),
-        _ => unreachable!(),
-    }
-}
-
-// The calling convention that the keyword says.
-fn abi(keyword: Keyword) -> FnAbi
-    requires { is_keyword_among (choice_words choice.Abi) keyword ≡ true }
-    ensures { keyword ≡ abi_word result }
-{
+    let Field::Chosen(keyword) = fields[place] else {
+        unreachable!()
+    };
     match keyword {
         Keyword::Rust => FnAbi::Rust,
         Keyword::RustCall => FnAbi::RustCall,
@@ -171,38 +159,18 @@ fn abi(keyword: Keyword) -> FnAbi
     }
 }
 
-// The same of the field at the place of the row.
-fn abi_at(word: Word, fields: &[Field], place: usize) -> FnAbi
-    requires fits { are_of_forms (field_forms (row word).parts) fields.now ≡ true }
-    requires form { slice_get (field_forms (row word).parts) place ≡ Some (OneWordOf choice.Abi) }
-    ensures { slice_get fields.now place ≡ Some (field.Chosen (abi_word result)) }
-{
-    match fields[place] {
-        Field::Chosen(keyword) => abi(keyword),
-        _ => unreachable!(),
-    }
-}
-
-// Whether the keyword says `variadic`.
-fn variadic(keyword: Keyword) -> bool
-    requires { is_keyword_among (choice_words choice.Variadic) keyword ≡ true }
-    ensures { keyword ≡ variadic_word result }
-{
-    match keyword {
-        Keyword::Fixed => false,
-        Keyword::Variadic => true,
-        _ => unreachable!(),
-    }
-}
-
-// The same of the field at the place of the row.
+// Whether the keyword at the place of the row says `variadic`.
 fn variadic_at(word: Word, fields: &[Field], place: usize) -> bool
     requires fits { are_of_forms (field_forms (row word).parts) fields.now ≡ true }
     requires form { slice_get (field_forms (row word).parts) place ≡ Some (OneWordOf choice.Variadic) }
     ensures { slice_get fields.now place ≡ Some (field.Chosen (variadic_word result)) }
 {
-    match fields[place] {
-        Field::Chosen(keyword) => variadic(keyword),
+    let Field::Chosen(keyword) = fields[place] else {
+        unreachable!()
+    };
+    match keyword {
+        Keyword::Fixed => false,
+        Keyword::Variadic => true,
         _ => unreachable!(),
     }
 }

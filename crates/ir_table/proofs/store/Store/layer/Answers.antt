@@ -1,4 +1,5 @@
 use Rattle.std.proofs.Common.{◌≡◌, ◌∙◌, IfSome, Some, ap, subst, sym, true}
+use Rattle.std.specs.Option.{option_map}
 use Rattle.ir_core.specs.declared.handles.PartSort.{PartSort}
 use Rattle.ir_core.specs.Parts.{sort_in}
 use Rattle.ir_laws.proofs.HeapLemmas.{has_node}
@@ -14,6 +15,9 @@ use Rattle.ir_table.proofs.store.Store.layer.Goals as goal
 
 pub unwrap-requires : goal.unwrap-requires
 unwrap-requires c = entry_some _ c.args.self.now.tables c.args.part c.entry.result c.entry.ensures.entry c.requires
+
+pub returns-clause-at : goal.returns-clause-at
+returns-clause-at c = ap (option_map (λ s. s.layer)) (entry_at _ c.args.self.now.tables c.args.part c.entry.result c.entry.ensures.entry c.unwrap.result c.unwrap.ensures c.requires).0
 
 pub returns-clause-layer : goal.returns-clause-layer
 returns-clause-layer c =
