@@ -1,5 +1,5 @@
 #!/usr/bin/env bash
-# Writes a long script: `generate.sh lets N` one of N `let` lines of distinct small terms, `generate.sh sames N` one of N `same` lines over forty terms, each of which holds the one before twice. `generate.sh binders N` and `generate.sh doubles N` write N lines whose terms hold the one before twice, below different binders: the first below one binder and beside it, the second below two.
+# Writes a long script: `generate.sh lets N` one of N `let` lines of distinct small terms, `generate.sh sames N` one of N `same` lines over forty terms, each of which holds the one before twice. `generate.sh terms N` prints one term of many labels N times, and `generate.sh prints N` one whose text is long. `generate.sh binders N` and `generate.sh doubles N` write N lines whose terms hold the one before twice, below different binders: the first below one binder and beside it, the second below two.
 set -eu
 case "${1:-}" in
 lets)
@@ -19,6 +19,18 @@ sames)
         for (i = 1; i <= n; i++) print "same A" 1 + i % 40 " A" 1 + (7 * i) % 40
     }'
     ;;
+terms)
+    awk -v n="$2" 'BEGIN {
+        for (i = 1; i <= n; i++) print "print (tuple (u8 bool (ref not static (tuple (u8))) (fnptr (for r) safe Rust fixed ((ref not (var 0 0 r) u8) (tuple ()))) (unsafe (for t r) (tuple ((var 0 0 t) u8)))))"
+    }'
+    ;;
+prints)
+    awk -v n="$2" 'BEGIN {
+        print "let A0 u8"
+        for (i = 1; i <= 13; i++) print "let A" i " (tuple (A" i - 1 " (ref not static A" i - 1 ")))"
+        for (i = 1; i <= n; i++) print "print A13"
+    }'
+    ;;
 binders)
     awk -v n="$2" 'BEGIN {
         print "let B0 (tuple ((var 0 0 t) (var 1 0 t)))"
@@ -34,7 +46,7 @@ doubles)
     }'
     ;;
 *)
-    echo "usage: generate.sh lets|sames|binders|doubles N" >&2
+    echo "usage: generate.sh lets|sames|terms|prints|binders|doubles N" >&2
     exit 2
     ;;
 esac
