@@ -46,12 +46,12 @@ use Rattle.ir_laws.proofs.PlantLemmas.{label_in, sort-plant}
 use Rattle.ir_core.specs.Parts.{same_part_sort, sort_in}
 use Rattle.ir_core.specs.declared.handles.PartSort.{PartSort}
 use Rattle.ir_core.specs.declared.handles.PartSort.TheVariants as handle
-use Rattle.ir_table.specs.declared.nodes.Field.{Field as NodeField}
-use Rattle.ir_table.specs.declared.nodes.Field.TheVariants as node
-use Rattle.ir_table.specs.Fits.{are_of_forms, handle_sort, is_of, is_list_of, kids_fit, part_sort, term_sort}
+use Rattle.ir_nodes.specs.declared.nodes.Field.{Field as NodeField}
+use Rattle.ir_nodes.specs.declared.nodes.Field.TheVariants as node
+use Rattle.ir_nodes.specs.Fits.{are_of_forms, handle_sort, is_of, is_list_of, kids_fit, part_sort, term_sort}
 use Rattle.ir_table.specs.Heaps.{heap_of}
-use Rattle.ir_table.specs.Nodes.{Fields, tys_kids, tys_layer, variable_field, variable_seen, variables_layer}
-use Rattle.ir_table.specs.Nodes as table
+use Rattle.ir_nodes.specs.Nodes.{Fields, tys_kids, tys_layer, variable_field, variable_seen, variables_layer}
+use Rattle.ir_nodes.specs.Nodes as table
 use Rattle.ir_table.specs.declared.store.Tables.{Tables}
 use Rattle.ir_table.proofs.CallerLemmas.{AllFit, live_binder, makes_err, makes_new, makes_none, makes_ok, makes_same, makes_then, same_fits}
 use Rattle.ir_table.specs.State.{State, NewAnswers, Makes}
@@ -611,26 +611,23 @@ module _ (h : Heap Part) (ns : List Named) (terms : AreTerms h ns) where
       }
 
 -- what all pass, each passes
-all_at : {A : Type 0} (test : A → Bool) (xs : List A) (i : ℕ) (x : A) → i < length xs → x ≡ get_or xs i x → list_all test xs ≡ true → test x ≡ true
-all_at {A} test xs i x h is all = ap test is ∙ at xs i x h all
-  where
-    at : (ys : List A) (j : ℕ) (d : A) → j < length ys → list_all test ys ≡ true → test (get_or ys j d) ≡ true
-    at [] j d below all = absurd (omega arith)
-    at (y ∷ ys) zero d below all = (and_parts (test y) (list_all test ys) all).0
-    at (y ∷ ys) (suc j) d below all = at ys j d (omega arith) (and_parts (test y) (list_all test ys) all).1
+all_at : {A : Type 0} (test : A → Bool) (xs : List A) (i : ℕ) (d : A) → i < length xs → list_all test xs ≡ true → test (get_or xs i d) ≡ true
+all_at test [] i d below all = absurd (omega arith)
+all_at test (x ∷ xs) zero d below all = (and_parts (test x) (list_all test xs) all).0
+all_at test (x ∷ xs) (suc i) d below all = all_at test xs i d (omega arith) (and_parts (test x) (list_all test xs) all).1
 
 pub buildable_at : (ns : List Named) (ps : List code.Phrase) (i : ℕ) (p : code.Phrase) → i < length ps → p ≡ get_or ps i p → list_all (λ k. is_buildable ns (phrase_seen k)) ps ≡ true → is_buildable ns (phrase_seen p) ≡ true
-buildable_at ns = all_at (λ k. is_buildable ns (phrase_seen k))
+buildable_at ns ps i p below is all = ap (λ k. is_buildable ns (phrase_seen k)) is ∙ all_at (λ k. is_buildable ns (phrase_seen k)) ps i p below all
 
 seen_all : {A B : Type 0} (test : B → Bool) (f : A → B) (xs : List A) → list_all (λ x. test (f x)) xs ≡ list_all test (map f xs)
 seen_all test f [] = refl
 seen_all test f (x ∷ xs) = ap (λ rest. test (f x) && rest) (seen_all test f xs)
 
-pub field_at : (fields : List Field) (i : ℕ) (field : Field) → i < length fields → field ≡ get_or fields i field → list_all is_nameless_field (map field_seen fields) ≡ true → is_nameless_field (field_seen field) ≡ true
-field_at fields i field below is all = all_at (λ f. is_nameless_field (field_seen f)) fields i field below is (seen_all is_nameless_field field_seen fields ∙ all)
+pub field_at : (fields : List Field) (i : ℕ) (d : Field) → i < length fields → list_all is_nameless_field (map field_seen fields) ≡ true → is_nameless_field (field_seen (get_or fields i d)) ≡ true
+field_at fields i d below all = all_at (λ f. is_nameless_field (field_seen f)) fields i d below (seen_all is_nameless_field field_seen fields ∙ all)
 
-pub kind_at : (kinds : List VariableKind) (i : ℕ) (kind : VariableKind) → i < length kinds → kind ≡ get_or kinds i kind → list_all is_nameless (map kind_seen kinds) ≡ true → is_nameless (kind_seen kind) ≡ true
-kind_at kinds i kind below is all = all_at (λ k. is_nameless (kind_seen k)) kinds i kind below is (seen_all is_nameless kind_seen kinds ∙ all)
+pub kind_at : (kinds : List VariableKind) (i : ℕ) (d : VariableKind) → i < length kinds → list_all is_nameless (map kind_seen kinds) ≡ true → is_nameless (kind_seen (get_or kinds i d)) ≡ true
+kind_at kinds i d below all = all_at (λ k. is_nameless (kind_seen k)) kinds i d below (seen_all is_nameless kind_seen kinds ∙ all)
 
 -- what is found without a name is what is kept
 pub field_same : (field : Field) (f : tree.Field SolverDefId) → is_nameless_field (field_seen field) ≡ true → field_meant no_names (field_seen field) ≡ Some f → f ≡ kept field
@@ -640,10 +637,10 @@ pub kind_same : (kind : VariableKind) (k : Kind SolverDefId) → is_nameless (ki
 kind_same kind k h e = same_Some k (kind_kept kind) (sym e ∙ kind_is_kept no_names kind h)
 
 -- one more is kept
-pub kept_more : {X Y K : Type 0} (name : Y → K) (keep : X → K) (xs : List X) (i : ℕ) (x : X) → i < length xs → x ≡ get_or xs i x → (ys more : List Y) (y : Y) → map name ys ≡ map keep (take i xs) → name y ≡ keep x → more ≡ ys ++ y ∷ [] → map name more ≡ map keep (take (i + 1) xs)
-kept_more name keep xs i x below is ys more y so_far same pushed =
+pub kept_more : {X Y K : Type 0} (name : Y → K) (keep : X → K) (xs : List X) (i : ℕ) (d : X) → i < length xs → (ys more : List Y) (y : Y) → map name ys ≡ map keep (take i xs) → name y ≡ keep (get_or xs i d) → more ≡ ys ++ y ∷ [] → map name more ≡ map keep (take (i + 1) xs)
+kept_more name keep xs i d below ys more y so_far same pushed =
     ap (map name) pushed ∙ map_push name ys y ∙ (λ j. so_far j ++ same j ∷ [])
-    ∙ sym (ap (map keep) (take_more xs i x below ∙ ap (λ o. take i xs ++ o ∷ []) (sym is)) ∙ map_push keep (take i xs) x)
+    ∙ sym (ap (map keep) (take_more xs i d below) ∙ map_push keep (take i xs) (get_or xs i d))
 
 -- ---- a phrase of the code that is a label
 
@@ -842,27 +839,25 @@ pub built_under : (h k : Heap Part) (ns : List Named) (old new : State) (p : Phr
 built_under h k ns old new p r grows terms = subst (λ (env : Environment). Builds env ns old new p r) (env_later h k grows ns terms)
 
 -- a name's part is held already
-pub name_built : (s : State) (ns : List Named) (phrase : code.Phrase) (name bytes : Text) (q : Part) → IsSound s.heap → AreTerms s.heap ns → phrase ≡ code.Name name → bytes ≡ name → part_named ns bytes ≡ Some q
+pub name_built : (s : State) (ns : List Named) (phrase : code.Phrase) (name : _) (q : Part) → IsSound s.heap → AreTerms s.heap ns → phrase ≡ code.Name name → part_named ns name.now ≡ Some q
     → Builds (env_of s.heap ns) ns s s (phrase_seen phrase) (Ok q)
-name_built s ns phrase name bytes q sound terms is same found =
-    let t = named_is_term s.heap ns bytes q terms found in
-    let here : part_named ns name ≡ Some q = ap (part_named ns) (sym same) ∙ found in
+name_built s ns phrase name q sound terms is found =
+    let t = named_is_term s.heap ns name.now q terms found in
     record {
       made = tree_of s.heap q;
-      tree = ap (λ p. environment.tree_in (env_of s.heap ns) (phrase_seen p)) is ∙ term_is s.heap ns name ∙ ap (option_map (tree_of s.heap)) here;
+      tree = ap (λ p. environment.tree_in (env_of s.heap ns) (phrase_seen p)) is ∙ term_is s.heap ns name.now ∙ ap (option_map (tree_of s.heap)) found;
       makes = makes_standing s q t.live (parts_stand s.heap sound (tree_of s.heap q) q t.live refl);
       live = t.live;
       stands = refl;
       suits = record {
-        sort = sym (ap (λ p. phrase_sort ns (phrase_seen p)) is ∙ ap sort_named here);
+        sort = sym (ap (λ p. phrase_sort ns (phrase_seen p)) is ∙ ap sort_named found);
         types = λ list. absurd (false≢true (sym (ap (λ p. is_list_makeable ns TypeList OfType (phrase_seen p)) is) ∙ list));
       };
     }
 
 -- a name that can be built has a part
-pub name_found : (ns : List Named) (phrase : code.Phrase) (name bytes : Text) → phrase ≡ code.Name name → bytes ≡ name → is_buildable ns (phrase_seen phrase) ≡ true → IsSome (part_named ns bytes)
-name_found ns phrase name bytes is same buildable =
-    subst (λ (text : Text). IsSome (part_named ns text)) (sym same) (by (part_named ns name) (sym (ap (λ p. is_buildable ns (phrase_seen p)) is) ∙ buildable))
+pub name_found : (ns : List Named) (phrase : code.Phrase) (name : _) → phrase ≡ code.Name name → is_buildable ns (phrase_seen phrase) ≡ true → IsSome (part_named ns name.now)
+name_found ns phrase name is buildable = by (part_named ns name.now) (sym (ap (λ p. is_buildable ns (phrase_seen p)) is) ∙ buildable)
   where
     by : (o : Option Part) → (is_some o || false) ≡ true → IsSome o
     by None h = absurd (false≢true h)

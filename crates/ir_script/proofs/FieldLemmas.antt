@@ -29,16 +29,13 @@ module _ {X : Type 0} (own : X → List Cause) (xs : List X) where
   abbrev pub causes_from : ℕ → List Cause
   causes_from i = flat_map own (drop i xs)
 
-  causes_at : (i : ℕ) (x : X) → i < length xs → x ≡ get_or xs i x → causes_from i ≡ own x ++ causes_from (i + 1)
-  causes_at i x h is = at_drop_more (flat_map own) xs i x h ∙ ap (λ y. own y ++ causes_from (i + 1)) (sym is)
-
   -- one that has none
-  pub none_at : (i : ℕ) (x : X) → i < length xs → x ≡ get_or xs i x → own x ≡ [] → causes_from i ≡ flat_map own xs → causes_from (i + 1) ≡ flat_map own xs
-  none_at i x h is none so_far = sym (causes_at i x h is ∙ ap (λ cs. cs ++ causes_from (i + 1)) none) ∙ so_far
+  pub none_at : (i : ℕ) (d : X) → i < length xs → own (get_or xs i d) ≡ [] → causes_from i ≡ flat_map own xs → causes_from (i + 1) ≡ flat_map own xs
+  none_at i d h none so_far = sym (at_drop_more (flat_map own) xs i d h ∙ ap (λ cs. cs ++ causes_from (i + 1)) none) ∙ so_far
 
   -- one that has this
-  pub found_at : (c : Cause) (i : ℕ) (x : X) → i < length xs → x ≡ get_or xs i x → is_cause_among (own x) c ≡ true → causes_from i ≡ flat_map own xs → is_cause_among (flat_map own xs) c ≡ true
-  found_at c i x h is found so_far = ap (λ cs. is_cause_among cs c) (sym so_far ∙ causes_at i x h is) ∙ among_left (own x) (causes_from (i + 1)) c found
+  pub found_at : (c : Cause) (i : ℕ) (d : X) → i < length xs → is_cause_among (own (get_or xs i d)) c ≡ true → causes_from i ≡ flat_map own xs → is_cause_among (flat_map own xs) c ≡ true
+  found_at c i d h found so_far = ap (λ cs. is_cause_among cs c) (sym so_far ∙ at_drop_more (flat_map own) xs i d h) ∙ among_left (own (get_or xs i d)) (causes_from (i + 1)) c found
 
   -- none is left
   pub none_left : (i : ℕ) → length xs ≤ i → causes_from i ≡ flat_map own xs → flat_map own xs ≡ []

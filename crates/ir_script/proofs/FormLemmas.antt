@@ -30,7 +30,7 @@ use Rattle.ir_laws.proofs.HeldLemmas.{just_counted}
 use Rattle.ir_laws.proofs.PartSets.{part_left, with_parts_held, with_parts_new, with_parts_either, with_parts_set}
 use Rattle.ir_laws.proofs.SameTerm.{term_decides}
 use Rattle.ir_table.specs.declared.Interner.{Interner}
-use Rattle.ir_table.specs.Fits.{part_sort}
+use Rattle.ir_nodes.specs.Fits.{part_sort}
 use Rattle.ir_table.specs.Interner.{heap, state}
 use Rattle.ir_table.specs.State.{State, Makes}
 use Rattle.ir_table.proofs.CallerLemmas.{live_sort, makes_err, makes_held, makes_then}

@@ -25,7 +25,7 @@ use Rattle.ir_laws.proofs.SameParts.{word_decides, sort_decides}
 use Rattle.ir_core.specs.declared.handles.Part.{Part as Held}
 use Rattle.ir_laws.specs.Environment.{Environment, is_here, item_named}
 use Rattle.ir_laws.specs.Heap.{Heap, tree_of}
-use Rattle.ir_table.specs.Fits.{part_sort}
+use Rattle.ir_nodes.specs.Fits.{part_sort}
 use Rattle.ir_script.specs.Scope.{Named, part_named, operand_sorts, env_of, AreTerms}
 use Rattle.ir_script.proofs.ScopeLemmas.{term_is, named_is_term}
 use Rattle.ir_script.specs.Makeable.{is_nameless, is_nameless_field, is_nameless_bind, label_makeable, list_label, sort_named, phrase_sort, is_makeable, kids_makeable, is_list_makeable, all_makeable, is_operand}

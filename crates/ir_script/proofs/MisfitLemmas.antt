@@ -12,7 +12,7 @@ use Rattle.ir_laws.specs.declared.labels.Sort.{Sort}
 use Rattle.ir_laws.specs.Environment.{Environment, NamedTerm, is_here, item_named}
 use Rattle.ir_laws.specs.Heap.{Heap, tree_of}
 use Rattle.ir_laws.specs.Tree.{Text, KindName, Nameless, Environment as EnvName, Called, Label, Term}
-use Rattle.ir_table.specs.Fits.{part_sort}
+use Rattle.ir_nodes.specs.Fits.{part_sort}
 use Rattle.ir_laws.specs.Cause.{Cause, WrongSort, is_cause_among}
 use Rattle.ir_laws.specs.Counts.{sort_of, sort_of_label, word_of}
 use Rattle.ir_laws.specs.Same.{same_sort}
@@ -255,14 +255,13 @@ module _ (h : Heap Held) (ns : List Named) (terms : AreTerms h ns) where
   tree_sort : (bytes : Text) (q : Held) → part_named ns bytes ≡ Some q → sort_of (tree_of h q) ≡ part_sort q
   tree_sort bytes q is = (named_is_term h ns bytes q terms is).sort
 
-  module _ (phrase : code.Phrase) (name bytes : Text) (is : phrase ≡ code.Name name) (same : bytes ≡ name) where
-    name_faults : (wanted : Wanted) → misfits (env_of h ns) wanted (phrase_seen phrase) ≡ term_misfits wanted (option_map (tree_of h) (part_named ns bytes))
-    name_faults wanted = ap (λ p. misfits (env_of h ns) wanted (phrase_seen p)) is ∙ ap (term_misfits wanted) (term_is h ns name)
-        ∙ ap (λ (text : Text). term_misfits wanted (option_map (tree_of h) (part_named ns text))) (sym same)
+  module _ (phrase : code.Phrase) (name : _) (is : phrase ≡ code.Name name) where
+    name_faults : (wanted : Wanted) → misfits (env_of h ns) wanted (phrase_seen phrase) ≡ term_misfits wanted (option_map (tree_of h) (part_named ns name.now))
+    name_faults wanted = ap (λ p. misfits (env_of h ns) wanted (phrase_seen p)) is ∙ ap (term_misfits wanted) (term_is h ns name.now)
 
     -- a name of a term has a fault where its sort does not suit
-    pub name_suits : (wanted : Wanted) (sort : Sort) (b : Bool) → Some sort ≡ option_map part_sort (part_named ns bytes) → ((word : Word) → b ≡ suits wanted word sort) → misfits (env_of h ns) wanted (phrase_seen phrase) ≡ unless b WrongSort
-    name_suits wanted sort b found suit = name_faults wanted ∙ by (part_named ns bytes) found (tree_sort bytes)
+    pub name_suits : (wanted : Wanted) (sort : Sort) (b : Bool) → Some sort ≡ option_map part_sort (part_named ns name.now) → ((word : Word) → b ≡ suits wanted word sort) → misfits (env_of h ns) wanted (phrase_seen phrase) ≡ unless b WrongSort
+    name_suits wanted sort b found suit = name_faults wanted ∙ by (part_named ns name.now) found (tree_sort name.now)
       where
         by : (o : Option Held) → Some sort ≡ option_map part_sort o → ((q : Held) → o ≡ Some q → sort_of (tree_of h q) ≡ part_sort q) → term_misfits wanted (option_map (tree_of h) o) ≡ unless b WrongSort
         by None f sorts = absurd cc
@@ -270,21 +269,20 @@ module _ (h : Heap Held) (ns : List Named) (terms : AreTerms h ns) where
             let of : part_sort q ≡ sort = cc in
             ap (λ s. unless (suits wanted (word_of (tree_of h q)) s) WrongSort) (sorts q refl ∙ of) ∙ ap (λ c. unless c WrongSort) (sym (suit (word_of (tree_of h q))))
 
-    pub name_wrong : (wanted : Wanted) (sort : Sort) (b : Bool) → Some sort ≡ option_map part_sort (part_named ns bytes) → ((word : Word) → b ≡ suits wanted word sort) → b ≡ false → Says cause.Sort (misfits (env_of h ns) wanted (phrase_seen phrase))
+    pub name_wrong : (wanted : Wanted) (sort : Sort) (b : Bool) → Some sort ≡ option_map part_sort (part_named ns name.now) → ((word : Word) → b ≡ suits wanted word sort) → b ≡ false → Says cause.Sort (misfits (env_of h ns) wanted (phrase_seen phrase))
     name_wrong wanted sort b found suit wrong = ap (λ cs. is_cause_among cs WrongSort) (name_suits wanted sort b found suit ∙ ap (λ c. unless c WrongSort) wrong)
 
     -- a name of no term has one
-    pub name_none : (wanted : Wanted) → None ≡ option_map part_sort (part_named ns bytes) → Says cause.Sort (misfits (env_of h ns) wanted (phrase_seen phrase))
-    name_none wanted found = ap (λ cs. is_cause_among cs WrongSort) (name_faults wanted ∙ by (part_named ns bytes) found)
+    pub name_none : (wanted : Wanted) → None ≡ option_map part_sort (part_named ns name.now) → Says cause.Sort (misfits (env_of h ns) wanted (phrase_seen phrase))
+    name_none wanted found = ap (λ cs. is_cause_among cs WrongSort) (name_faults wanted ∙ by (part_named ns name.now) found)
       where
         by : (o : Option Held) → None ≡ option_map part_sort o → term_misfits wanted (option_map (tree_of h) o) ≡ WrongSort ∷ []
         by None f = refl
         by (Some q) f = absurd cc
 
     -- the sort of a name is that of its part
-    pub name_sort : option_map part_sort (part_named ns bytes) ≡ sort_of_phrase (env_of h ns) (phrase_seen phrase)
-    name_sort = sym (ap (λ p. sort_of_phrase (env_of h ns) (phrase_seen p)) is ∙ ap sort_maybe (term_is h ns name)
-        ∙ ap (λ (text : Text). sort_maybe (option_map (tree_of h) (part_named ns text))) (sym same) ∙ by (part_named ns bytes) (tree_sort bytes))
+    pub name_sort : option_map part_sort (part_named ns name.now) ≡ sort_of_phrase (env_of h ns) (phrase_seen phrase)
+    name_sort = sym (ap (λ p. sort_of_phrase (env_of h ns) (phrase_seen p)) is ∙ ap sort_maybe (term_is h ns name.now) ∙ by (part_named ns name.now) (tree_sort name.now))
       where
         by : (o : Option Held) → ((q : Held) → o ≡ Some q → sort_of (tree_of h q) ≡ part_sort q) → sort_maybe (option_map (tree_of h) o) ≡ option_map part_sort o
         by None sorts = refl

@@ -99,29 +99,27 @@ module _ (env : Environment) where
 -- ---- a name
 
 -- a name is known where a part has it
-pub known_is : (h : Heap Part) (ns : List Named) (name bytes : Text) (found : Option Part) → bytes ≡ name → found ≡ part_named ns bytes → is_known (env_of h ns) name ≡ is_some found
-known_is h ns name bytes found same finds =
-    ap is_here (term_is h ns name) ∙ by (part_named ns name)
-    ∙ ap (λ (text : Text). is_some (part_named ns text)) (sym same) ∙ ap is_some (sym finds)
+pub known_is : (h : Heap Part) (ns : List Named) (name : Text) (found : Option Part) → found ≡ part_named ns name → is_known (env_of h ns) name ≡ is_some found
+known_is h ns name found finds = ap is_here (term_is h ns name) ∙ by (part_named ns name) ∙ ap is_some (sym finds)
   where
     by : (o : Option Part) → is_here (option_map (tree_of h) o) ≡ is_some o
     by None = refl
     by (Some q) = refl
 
 -- the same of a phrase of the code
-pub code_name : (h : Heap Part) (ns : List Named) (phrase : code.Phrase) (name : Text) (bytes : Text) (found : Option Part) → phrase ≡ code.Name name → bytes ≡ name → found ≡ part_named ns bytes
+pub code_name : (h : Heap Part) (ns : List Named) (phrase : code.Phrase) (name : _) (found : Option Part) → phrase ≡ code.Name name → found ≡ part_named ns name.now
     → unknown_in (env_of h ns) None (phrase_seen phrase) ≡ unless (is_some found) Unknown
-code_name h ns phrase name bytes found is same finds =
-    ap (λ p. unknown_in (env_of h ns) None (phrase_seen p)) is ∙ ap (λ b. unless b Unknown) (known_is h ns name bytes found same finds)
+code_name h ns phrase name found is finds =
+    ap (λ p. unknown_in (env_of h ns) None (phrase_seen p)) is ∙ ap (λ b. unless b Unknown) (known_is h ns name.now found finds)
 
 -- ---- a variable kind
 
 -- a kind with a name is known where a part has the name
-pub kind_called : (h : Heap Part) (ns : List Named) (k : Kind Text) (name bytes : Text) (found : Option Part) → Some name ≡ name_in k → bytes ≡ name → found ≡ part_named ns bytes → unknown_kind (env_of h ns) None k ≡ unless (is_some found) Unknown
-kind_called h ns k name bytes found is same finds = by k.name is
+pub kind_called : (h : Heap Part) (ns : List Named) (k : Kind Text) (name : Text) (found : Option Part) → Some name ≡ name_in k → found ≡ part_named ns name → unknown_kind (env_of h ns) None k ≡ unless (is_some found) Unknown
+kind_called h ns k name found is finds = by k.name is
   where
     by : (n : KindName Text) → Some name ≡ elim n [ Nameless ↦ None | EnvName ↦ None | Called m ↦ Some m ]
         → elim n [ Nameless ↦ [] | EnvName ↦ [] | Called m ↦ unless (is_earlier_or_own (env_of h ns) None m) Unknown ] ≡ unless (is_some found) Unknown
     by Nameless f = absurd (cc)
     by EnvName f = absurd (cc)
-    by (Called m) f = let here : m ≡ name = cc in ap (λ b. unless b Unknown) (ap (is_known (env_of h ns)) here ∙ known_is h ns name bytes found same finds)
+    by (Called m) f = let here : m ≡ name = cc in ap (λ b. unless b Unknown) (ap (is_known (env_of h ns)) here ∙ known_is h ns name found finds)

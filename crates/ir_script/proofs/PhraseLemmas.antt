@@ -274,9 +274,9 @@ pub group_first : (items rest : List code.Expr) (first : code.Expr) (es : list.E
 group_first items rest first es e is = sym (ap (λ items. phrase_of (Group (exprs_in items))) (e ∙ ap (λ first. first ∷ rest) is))
 
 -- a group that begins with a word
-pub begun_is : (e first : code.Expr) (es : list.Exprs) (items rest : List code.Expr) (text bytes : Text) → e ≡ code.Group es → items ≡ items_of es → items ≡ first ∷ rest → first ≡ code.Word text → bytes ≡ text → Group (ThenExpr (Single bytes) (exprs_in rest)) ≡ expr_of e
-begun_is e first es items rest text bytes is same begins_so word_is bytes_is =
-    ap (λ text. Group (ThenExpr (Single text) (exprs_in rest))) bytes_is ∙ ap (λ first. Group (exprs_in (first ∷ rest))) (sym word_is) ∙ ap (λ items. Group (exprs_in items)) (sym begins_so) ∙ group_is e es items is same
+pub begun_is : (e first : code.Expr) (es : list.Exprs) (items rest : List code.Expr) (text : _) → e ≡ code.Group es → items ≡ items_of es → items ≡ first ∷ rest → first ≡ code.Word text → Group (ThenExpr (Single text.now) (exprs_in rest)) ≡ expr_of e
+begun_is e first es items rest text is same begins_so word_is =
+    ap (λ first. Group (exprs_in (first ∷ rest))) (sym word_is) ∙ ap (λ items. Group (exprs_in items)) (sym begins_so) ∙ group_is e es items is same
 
 -- what follows from the word that is found
 pub by_word : (bytes : Text) (es : Exprs) (word : Option Word) (e : Expr) → word ≡ written_word bytes es → Group (ThenExpr (Single bytes) es) ≡ e → (elim word as (λ w. Option Phrase) [ Some w ↦ labelled w (fit es (row w).parts) | None ↦ None ]) ≡ phrase_of e

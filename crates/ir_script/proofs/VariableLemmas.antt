@@ -1,13 +1,11 @@
 -- The kinds of a group, one after the other.
-use Rattle.std.proofs.Common.{◌≡◌, ◌∙◌, ℕ, ◌+◌, ◌<◌, ◌≤◌, List, [], ◌∷◌, ◌++◌, length, get_or, drop, map, Option, Some, None, option_map, append_assoc, refl, sym, ap}
-use Rattle.std.proofs.lemmas.List.{at_drop_more, drop_all, map_push, append-nil}
+use Rattle.std.proofs.Common.{◌≡◌, ◌∙◌, ℕ, ◌+◌, ◌<◌, List, [], ◌∷◌, ◌++◌, length, get_or, drop, map, Option, Some, None, option_map, append_assoc, refl, sym, ap}
+use Rattle.std.proofs.lemmas.List.{at_drop_more, map_push}
 use Rattle.ir_laws.specs.Tree.{Text, Kind}
 use Rattle.ir_laws.specs.Expression.{Exprs, Single, ThenExpr}
 use Rattle.ir_laws.specs.Phrase.{kind_of, cons_if, words_of, each_of, and_then}
 use Rattle.ir_script.specs.declared.expression.Expr as code
-use Rattle.ir_script.specs.declared.expression.Exprs as list
 use Rattle.ir_script.specs.declared.phrases.VariableKind.{VariableKind}
-use Rattle.ir_script.proofs.ExpressionLemmas.{expr_of-Group}
 use Rattle.ir_script.specs.Phrases.{kind_seen}
 use Rattle.ir_script.specs.Views.{expr_of, exprs_in}
 
@@ -39,13 +37,12 @@ module _ (items : List code.Expr) (i : ℕ) (item : code.Expr) (h : i < length i
   kinds-at = at_drop_more (λ es. kinds_in (exprs_in es)) items i item h ∙ ap (λ e. kinds_in (ThenExpr (expr_of e) (exprs_in (drop (i + 1) items)))) (sym at)
 
   module _ (ks : List VariableKind) (all : Option (List (Kind Text))) (so_far : all ≡ behind_kinds ks (kinds_in (exprs_in (drop i items)))) where
-    module _ (text bytes : Text) (is : item ≡ code.Word text) (same : bytes ≡ text) where
-      with_word : all ≡ behind_kinds ks (cons_if (kind_of bytes) (kinds_in (exprs_in (drop (i + 1) items))))
-      with_word = so_far ∙ ap (behind_kinds ks) (kinds-at ∙ ap (λ e. kinds_in (ThenExpr (expr_of e) (exprs_in (drop (i + 1) items)))) is ∙ cons-kind text (exprs_in (drop (i + 1) items))
-          ∙ ap (λ (word : Text). cons_if (kind_of word) (kinds_in (exprs_in (drop (i + 1) items)))) (sym same))
+    module _ (text : _) (is : item ≡ code.Word text) where
+      with_word : all ≡ behind_kinds ks (cons_if (kind_of text.now) (kinds_in (exprs_in (drop (i + 1) items))))
+      with_word = so_far ∙ ap (behind_kinds ks) (kinds-at ∙ ap (λ e. kinds_in (ThenExpr (expr_of e) (exprs_in (drop (i + 1) items)))) is ∙ cons-kind text.now (exprs_in (drop (i + 1) items)))
 
       -- one more kind
-      pub next_kind : (k : VariableKind) (new : List VariableKind) → Some (kind_seen k) ≡ kind_of bytes → new ≡ ks ++ k ∷ [] → all ≡ behind_kinds new (kinds_in (exprs_in (drop (i + 1) items)))
+      pub next_kind : (k : VariableKind) (new : List VariableKind) → Some (kind_seen k) ≡ kind_of text.now → new ≡ ks ++ k ∷ [] → all ≡ behind_kinds new (kinds_in (exprs_in (drop (i + 1) items)))
       next_kind k new read pushed =
           with_word ∙ ap (λ k. behind_kinds ks (cons_if k (kinds_in (exprs_in (drop (i + 1) items))))) (sym read) ∙ behind-last ks k (kinds_in (exprs_in (drop (i + 1) items)))
           ∙ ap (λ ks. behind_kinds ks (kinds_in (exprs_in (drop (i + 1) items)))) (sym pushed)

@@ -16,7 +16,7 @@ use Rattle.ir_laws.specs.Heap.{Each, IsLive, forest, kinds_at, tree_of, with_bin
 use Rattle.ir_laws.specs.Parts.{parts, all_parts, variable_lists}
 use Rattle.ir_laws.specs.Phrase.{Phrase, Phrases, NoPhrase, ThenPhrase}
 use Rattle.ir_laws.specs.Tree.{Text, Kind, Term, Terms}
-use Rattle.ir_table.specs.Fits.{part_sort, is_list_of}
+use Rattle.ir_nodes.specs.Fits.{part_sort, is_list_of}
 use Rattle.ir_table.specs.State.{State, Makes}
 use Rattle.ir_script.specs.Causes.{no_names}
 use Rattle.ir_script.specs.Scope.{Named}

@@ -16,7 +16,7 @@ use Rattle.ir_laws.specs.Names.{field_forms}
 use Rattle.ir_laws.specs.Sorts.{is_sort_among, is_word_among}
 use Rattle.ir_laws.specs.Tree.{Text, Nameless, Environment as EnvName, Called, Kind, Field, Number, Item, Chosen, OfKind, Memory, Label}
 use Rattle.ir_laws.specs.Formed.{kid_forms, fields_fit, bind_fits, has_no_fields}
-use Rattle.ir_table.specs.Fits.{part_sort}
+use Rattle.ir_nodes.specs.Fits.{part_sort}
 use Rattle.ir_script.specs.Scope.{Named, part_named, operand_sorts}
 use Rattle.ir_laws.specs.Phrase.{Phrase, Phrases, Name, Labelled, NoPhrase, ThenPhrase}
 

@@ -35,8 +35,8 @@ name_seen None = Nameless
 name_seen (Some name) = Called name
 
 abbrev pub kind_seen : VariableKind → Kind Text
-kind_seen (variable.Type name) = record { sort = OfType; name = name_seen name }
-kind_seen (variable.Region name) = record { sort = OfRegion; name = name_seen name }
+kind_seen (variable.Type name) = record { sort = OfType; name = name_seen (option_map (λ text. text.now) name) }
+kind_seen (variable.Region name) = record { sort = OfRegion; name = name_seen (option_map (λ text. text.now) name) }
 kind_seen variable.Environment = record { sort = OfRegion; name = Environment }
 kind_seen variable.Constant = record { sort = OfConstant; name = Nameless }
 
@@ -59,7 +59,7 @@ bind_seen = option_map (λ kinds. map kind_seen kinds.items)
 
 abbrev mutual
   pub phrase_seen : code.Phrase → Phrase
-  phrase_seen (code.Name name) = Name name
+  phrase_seen (code.Name name) = Name name.now
   phrase_seen (code.Labelled' word fields bind shape kids) = Labelled (label_seen word fields.items) (bind_seen bind) (row_seen kids)
 
   pub row_seen : {m : _} → code.Row_of-Phrase m → Phrases
@@ -73,7 +73,7 @@ phrases_seen (p ∷ ps) = ThenPhrase (phrase_seen p) (phrases_seen ps)
 
 abbrev pub form_seen : Form → form.Form Phrase
 form_seen code_form.Blank = form.Blank
-form_seen (code_form.Let name p) = form.Let name (phrase_seen p)
+form_seen (code_form.Let name p) = form.Let name.now (phrase_seen p)
 form_seen (code_form.Print p) = form.Print (phrase_seen p)
 form_seen (code_form.Same p q) = form.Same (phrase_seen p) (phrase_seen q)
 form_seen (code_form.Flags p) = form.Flags (phrase_seen p)

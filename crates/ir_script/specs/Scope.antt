@@ -9,7 +9,7 @@ use Rattle.ir_laws.specs.Environment.{Environment, NamedTerm}
 use Rattle.ir_laws.specs.Heap.{Heap, Each, IsLive, tree_of}
 use Rattle.ir_laws.specs.Sorts.{is_sort_among}
 use Rattle.ir_laws.specs.Tree.{Text}
-use Rattle.ir_table.specs.Fits.{part_sort}
+use Rattle.ir_nodes.specs.Fits.{part_sort}
 use Rattle.ir_script.specs.declared.scope.Scope.{Scope}
 
 -- a name and the part that it stands for

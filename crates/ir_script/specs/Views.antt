@@ -6,7 +6,7 @@ use Rattle.ir_script.specs.declared.expression.Exprs as list
 
 abbrev mutual
   pub expr_of : code.Expr → Expr
-  expr_of (code.Word text) = Single text
+  expr_of (code.Word text) = Single text.now
   expr_of (code.Group' shape es) = Group (exprs_of es)
 
   pub exprs_of : {m : _} → code.Row_of-Expr m → Exprs

@@ -21,10 +21,10 @@ ghost use Rattle.ir_script.specs.Phrases.{
   phrases_seen,
 };
 ghost use Rattle.ir_script.specs.Scope.{AreTerms, env_of, scope_names};
-ghost use Rattle.ir_table.specs.Fits.{part_sort};
+ghost use Rattle.ir_nodes.specs.Fits.{part_sort};
 ghost use Rattle.ir_table.specs.Interner.{heap, state};
-ghost use Rattle.ir_table.specs.Nodes as table;
-ghost use Rattle.ir_table.specs.Nodes.{variable_seen};
+ghost use Rattle.ir_nodes.specs.Nodes as table;
+ghost use Rattle.ir_nodes.specs.Nodes.{variable_seen};
 ghost use Rattle.std.specs.List.{list_all};
 ghost use Rattle.std.specs.Prelude.{◌≡◌, [], true, Some, Err, map as mapped, IfOk, OnErr};
 
@@ -34,7 +34,8 @@ use ir_core::{
     BoundRegionKind, BoundTyKind, BoundVarKind, BoundVarKinds, Handle, Part, R, TermError, Ty, Tys,
 };
 use ir_laws::{Sort, Word};
-use ir_table::{InternList, Interner, Node};
+use ir_nodes::Node;
+use ir_table::{InternList, Interner};
 use std::alloc::Global;
 
 /// The types that these parts are.
@@ -54,7 +55,7 @@ fn types_of(alloc: Global, parts: &[Part]) -> R<Vec<Ty>>
 }
 
 // The variable of this kind. It has no name, since no item is declared.
-fn variable_of(kind: &VariableKind) -> BoundVarKind
+fn variable_of(kind: &VariableKind<'_>) -> BoundVarKind
     requires { is_nameless (kind_seen kind.now) ≡ true }
     ensures { kind_in no_names (kind_seen kind.now) ≡ Some (variable_seen result) }
 {
@@ -67,7 +68,7 @@ fn variable_of(kind: &VariableKind) -> BoundVarKind
 }
 
 // The variables of these kinds.
-fn variables_of(alloc: Global, kinds: &[VariableKind]) -> R<Vec<BoundVarKind>>
+fn variables_of(alloc: Global, kinds: &[VariableKind<'_>]) -> R<Vec<BoundVarKind>>
     requires { list_all is_nameless (mapped kind_seen kinds.now) ≡ true }
     ensures variables { IfOk result (λ vs. each_of (kind_in no_names) (mapped kind_seen kinds.now) ≡ Some (mapped variable_seen vs.items)) }
     ensures err { OnErr result (result ≡ Err TermError.Memory) }
@@ -83,7 +84,7 @@ fn variables_of(alloc: Global, kinds: &[VariableKind]) -> R<Vec<BoundVarKind>>
 fn binder_of(
     alloc: Global,
     cx: &mut Interner,
-    bind: &Option<Vec<VariableKind>>,
+    bind: &Option<Vec<VariableKind<'_>>>,
 ) -> R<Option<BoundVarKinds>>
     requires { is_nameless_bind (bind_seen bind.now) ≡ true }
     ensures { Binds (state cx.old) (state cx.new) (bind_seen bind.now) result }
@@ -97,19 +98,19 @@ fn binder_of(
 }
 
 // The field as the interner has it.
-fn field_of(field: &Field) -> ir_table::Field
+fn field_of(field: &Field<'_>) -> ir_nodes::Field
     requires { is_nameless_field (field_seen field.now) ≡ true }
     ensures { field_meant no_names (field_seen field.now) ≡ Some (table.field_seen result) }
 {
     match field {
-        Field::Chosen(word) => ir_table::Field::Chosen(*word),
-        Field::Number(number) => ir_table::Field::Number(*number),
-        Field::OfKind(kind) => ir_table::Field::OfKind(variable_of(kind)),
+        Field::Chosen(word) => ir_nodes::Field::Chosen(*word),
+        Field::Number(number) => ir_nodes::Field::Number(*number),
+        Field::OfKind(kind) => ir_nodes::Field::OfKind(variable_of(kind)),
     }
 }
 
 // The fields as the interner has them.
-fn fields_of(alloc: Global, fields: &[Field]) -> R<Vec<ir_table::Field>>
+fn fields_of(alloc: Global, fields: &[Field<'_>]) -> R<Vec<ir_nodes::Field>>
     requires { list_all is_nameless_field (mapped field_seen fields.now) ≡ true }
     ensures fields { IfOk result (λ fs. each_of (field_meant no_names) (mapped field_seen fields.now) ≡ Some (mapped table.field_seen fs.items)) }
     ensures err { OnErr result (result ≡ Err TermError.Memory) }
@@ -133,13 +134,13 @@ fn is_list(word: Word) -> bool
 
 /// The part of the phrase's tree.
 #[cycle(build)]
-pub(crate) fn build(alloc: Global, cx: &mut Interner, scope: &Scope, phrase: &Phrase) -> R<Part>
+pub(crate) fn build(alloc: Global, cx: &mut Interner, scope: &Scope, phrase: &Phrase<'_>) -> R<Part>
     requires buildable { is_buildable (scope_names scope.now) (phrase_seen phrase.now) ≡ true }
     requires terms { AreTerms (heap cx.old) (scope_names scope.now) }
     ensures { Builds (env_of (heap cx.old) (scope_names scope.now)) (scope_names scope.now) (state cx.old) (state cx.new) (phrase_seen phrase.now) result }
 {
     let (word, fields, bind, kids) = match phrase {
-        Phrase::Name(name) => return Ok(scope.find(name.as_bytes()).unwrap()),
+        Phrase::Name(name) => return Ok(scope.find(name).unwrap()),
         Phrase::Labelled(word, fields, bind, kids) => (word, fields, bind, kids),
     };
     let parts = build_all(alloc, cx, scope, kids)?;
@@ -156,7 +157,7 @@ pub(crate) fn build(alloc: Global, cx: &mut Interner, scope: &Scope, phrase: &Ph
 
 /// The parts of the phrases' trees.
 #[cycle(build)]
-fn build_all(alloc: Global, cx: &mut Interner, scope: &Scope, kids: &[Phrase]) -> R<Vec<Part>>
+fn build_all(alloc: Global, cx: &mut Interner, scope: &Scope, kids: &[Phrase<'_>]) -> R<Vec<Part>>
     requires buildable { list_all (λ p. is_buildable (scope_names scope.now) (phrase_seen p)) kids.now ≡ true }
     requires terms { AreTerms (heap cx.old) (scope_names scope.now) }
     ensures { BuildsAll (env_of (heap cx.old) (scope_names scope.now)) (scope_names scope.now) (state cx.old) (state cx.new) (phrases_seen kids.now) result }

@@ -5,7 +5,7 @@ ghost use Rattle.ir_laws.specs.Expression as syntax;
 ghost use Rattle.ir_script.specs.Views.{exprs_in, items_of};
 ghost use Rattle.ir_script.specs.Nesting.{are_word_bytes, nesting, stack_of, with_bytes, with_separator, Leaves};
 
-use ir_core::{R, TermError, Text};
+use ir_core::{R, TermError};
 use std::alloc::Global;
 use std::mem;
 
@@ -15,19 +15,19 @@ const MAX_DEPTH: usize = 256;
 /// A word, or a group of expressions in brackets.
 #[derive(Drop)]
 #[cycle(expression)]
-pub enum Expr {
-    Word(Text),
-    Group(Exprs),
+pub enum Expr<'a> {
+    Word(&'a [u8]),
+    Group(Exprs<'a>),
 }
 
 /// A list of expressions.
 #[derive(Drop)]
 #[cycle(expression)]
-pub struct Exprs {
-    items: Vec<Expr>,
+pub struct Exprs<'a> {
+    items: Vec<Expr<'a>>,
 }
 
-impl Exprs {
+impl<'a> Exprs<'a> {
     /// No expressions, which takes no memory.
     pub fn new(alloc: Global) -> Self
         ensures { items_of result ≡ [] }
@@ -38,7 +38,7 @@ impl Exprs {
     }
 
     /// The expressions in order.
-    pub fn as_slice(&self) -> &[Expr]
+    pub fn as_slice(&self) -> &[Expr<'a>]
         ensures { result.now ≡ items_of self.now }
     {
         self.items.as_slice()
@@ -59,8 +59,8 @@ impl Exprs {
     }
 
     /// Puts an expression last. It is refused only for want of memory, and is then as it was.
-    pub fn push(&mut self, item: Expr) -> R<()>
-        ensures ok { OnOk result (items_of self.new ≡ items_of self.old ++ item ∷ []) }
+    pub fn push(&mut self, item: Expr<'a>) -> R<()>
+        ensures ok { OnOk result (items_of self.new ≡ items_of self.old ++ item.entry ∷ []) }
         ensures err { OnErr result ((items_of self.new ≡ items_of self.old) × (result ≡ Err TermError.Memory)) }
     {
         self.items.push(item)?;
@@ -71,12 +71,12 @@ impl Exprs {
 /// The groups that are open at a place of a line, each with its expressions to the right of that
 /// place, last first. The outermost stands for the line.
 #[derive(Drop)]
-struct OpenGroups {
-    innermost: Vec<Expr>,
-    outer: Vec<Vec<Expr>>,
+struct OpenGroups<'a> {
+    innermost: Vec<Expr<'a>>,
+    outer: Vec<Vec<Expr<'a>>>,
 }
 
-impl OpenGroups {
+impl<'a> OpenGroups<'a> {
     /// What is open at the end of a line.
     fn new(alloc: Global) -> Self
         ensures { stack_of result ≡ syntax.NoExpr ∷ [] }
@@ -88,15 +88,14 @@ impl OpenGroups {
     }
 
     /// Goes over a word, or over nothing.
-    fn put_word(&mut self, alloc: Global, bytes: &[u8]) -> R<()>
+    fn put_word(&mut self, bytes: &'a [u8]) -> R<()>
         ensures read { OnOk result (with_bytes bytes.now (stack_of self.old) ≡ Some (stack_of self.new)) }
         ensures err { OnErr result (result ≡ Err TermError.Memory) }
     {
         if bytes.is_empty() {
             return Ok(());
         }
-        let word = Text::from_bytes(alloc, bytes)?;
-        self.innermost.push(Expr::Word(word))?;
+        self.innermost.push(Expr::Word(bytes))?;
         Ok(())
     }
 
@@ -143,9 +142,9 @@ impl OpenGroups {
     }
 
     /// The line's expressions, if no bracket is open.
-    fn into_line(self) -> Option<Exprs>
+    fn into_line(self) -> Option<Exprs<'a>>
         requires shallow { nesting (stack_of self) ≤ 256 }
-        ensures { option_map (λ es. exprs_in (items_of es)) result ≡ syntax.if_shallow (syntax.closed (Some (stack_of self))) }
+        ensures { option_map (λ es. exprs_in (items_of es)) result ≡ syntax.if_shallow (syntax.closed (Some (stack_of self.entry))) }
     {
         let OpenGroups { innermost, outer } = self;
         if outer.is_empty() {
@@ -157,8 +156,8 @@ impl OpenGroups {
 }
 
 /// The expressions that were held last first.
-fn whole(mut items: Vec<Expr>) -> Exprs
-    ensures { items_of result ≡ reverse items.items }
+fn whole(mut items: Vec<Expr<'_>>) -> Exprs<'_>
+    ensures { items_of result ≡ reverse items.entry.items }
 {
     items.reverse();
     Exprs { items }
@@ -201,7 +200,7 @@ fn word_start(line: &[u8], end: usize) -> usize
 
 /// The expressions of a line. There are none if a byte is none of a line's, or its brackets don't
 /// match or nest too deep. It goes from the right, so that no deep tree is ever made.
-pub(crate) fn expressions(alloc: Global, line: &[u8]) -> R<Option<Exprs>>
+pub(crate) fn expressions(alloc: Global, line: &[u8]) -> R<Option<Exprs<'_>>>
     ensures read { IfOk result (λ o. option_map (λ es. exprs_in (items_of es)) o ≡ syntax.expressions line.now) }
     ensures err { OnErr result (result ≡ Err TermError.Memory) }
 {
@@ -212,7 +211,7 @@ pub(crate) fn expressions(alloc: Global, line: &[u8]) -> R<Option<Exprs>>
     let mut end = line.len();
     loop {
         let start = word_start(line, end);
-        groups.put_word(alloc, &line[start..end])?;
+        groups.put_word(&line[start..end])?;
         if start == 0 {
             return Ok(groups.into_line());
         }
@@ -240,26 +239,33 @@ mod tests {
         Ok(expressions(alloc, line.as_slice())?.is_some())
     }
 
+    fn is_word(item: &Expr<'_>, text: &[u8]) -> bool {
+        match item {
+            Expr::Word(word) => *word == text,
+            Expr::Group(_) => false,
+        }
+    }
+
     #[test]
     fn words_and_groups_stand_in_order(rt: HostRuntime) -> Result<(), Fail> {
         let read = expressions(rt.alloc(), b"  adt (7  u8)() last")?.ok_or("refused")?;
-        let [
-            Expr::Word(first),
-            Expr::Group(pair),
-            Expr::Group(none),
-            Expr::Word(last),
-        ] = read.as_slice()
-        else {
+        let [first, pair, none, last] = read.as_slice() else {
             return Err(Fail::from("other expressions"));
         };
-        let [Expr::Word(number), Expr::Word(kind)] = pair.as_slice() else {
+        let Expr::Group(pair) = pair else {
+            return Err(Fail::from("no group"));
+        };
+        let [number, kind] = pair.as_slice() else {
             return Err(Fail::from("another group"));
         };
-        assert!(rt; first.as_bytes() == b"adt".as_slice());
-        assert!(rt; number.as_bytes() == b"7".as_slice());
-        assert!(rt; kind.as_bytes() == b"u8".as_slice());
+        let Expr::Group(none) = none else {
+            return Err(Fail::from("no empty group"));
+        };
+        assert!(rt; is_word(first, b"adt"));
+        assert!(rt; is_word(number, b"7"));
+        assert!(rt; is_word(kind, b"u8"));
         assert!(rt; none.is_empty());
-        assert!(rt; last.as_bytes() == b"last".as_slice());
+        assert!(rt; is_word(last, b"last"));
         Ok(())
     }
 

@@ -51,19 +51,19 @@ fn bare_word(text: &[u8]) -> Option<Word>
 }
 
 /// Whether the parts begin with no fixed word, or with the word that the expressions begin with.
-fn begins(parts: &[Part], items: &[Expr]) -> bool
+fn begins(parts: &[Part], items: &[Expr<'_>]) -> bool
     ensures { result ≡ begins parts.now (exprs_in items.now) }
 {
     match (parts.first(), items.first()) {
         (None, _) => false,
-        (Some(Part::Fixed(word)), Some(Expr::Word(text))) => word.text() == text.as_bytes(),
+        (Some(Part::Fixed(word)), Some(Expr::Word(text))) => word.text() == *text,
         (Some(Part::Fixed(_)), _) => false,
         (Some(Part::ForGroup | Part::AField(_) | Part::AKid(_)), _) => true,
     }
 }
 
 /// The label that is written in brackets with this word, before these expressions.
-fn written_word(text: &[u8], items: &[Expr]) -> Option<Word>
+fn written_word(text: &[u8], items: &[Expr<'_>]) -> Option<Word>
     ensures { result ≡ written_word text.now (exprs_in items.now) }
 {
     LABEL_WORDS
@@ -84,27 +84,25 @@ fn keyword_of(choice: Choice, text: &[u8]) -> Option<Keyword>
 }
 
 /// The expression as a field of this form.
-fn field_in(alloc: Global, form: FieldForm, item: &Expr) -> R<Option<Field>>
+fn field_in<'a>(form: FieldForm, item: &Expr<'a>) -> Option<Field<'a>>
     requires { IsTrue (is_built_field form) }
-    ensures read { IfOk result (λ o. option_map field_seen o ≡ field_in form (expr_of item.now)) }
-    ensures err { OnErr result (result ≡ Err TermError.Memory) }
+    ensures { option_map field_seen result ≡ field_in form (expr_of item.now) }
 {
-    let Expr::Word(word) = item else {
-        return Ok(None);
+    let Expr::Word(text) = item else {
+        return None;
     };
-    let text = word.as_bytes();
     match form {
-        FieldForm::OneWordOf(choice) => Ok(keyword_of(choice, text).map(Field::Chosen)),
-        FieldForm::ANumber => Ok(number_of(text).map(Field::Number)),
-        FieldForm::AVariableKind => Ok(kind_of(alloc, text)?.map(Field::OfKind)),
-        FieldForm::ARegionKind => Ok(region_kind_of(alloc, text)?.map(Field::OfKind)),
+        FieldForm::OneWordOf(choice) => Some(Field::Chosen(keyword_of(choice, text)?)),
+        FieldForm::ANumber => Some(Field::Number(number_of(text)?)),
+        FieldForm::AVariableKind => Some(Field::OfKind(kind_of(text)?)),
+        FieldForm::ARegionKind => Some(Field::OfKind(region_kind_of(text)?)),
         FieldForm::ItemOf(_) | FieldForm::AliasOfTrait | FieldForm::IdOf(_) | FieldForm::AMemory =>
-            Ok(None),
+            None,
     }
 }
 
 /// The text as a bare label or a name.
-fn bare_or_name(alloc: Global, text: &[u8]) -> R<Option<Phrase>>
+fn bare_or_name(alloc: Global, text: &[u8]) -> R<Option<Phrase<'_>>>
     ensures read { IfOk result (λ o. option_map phrase_seen o ≡ bare_or_name text.now) }
     ensures err { OnErr result (result ≡ Err TermError.Memory) }
 {
@@ -112,7 +110,7 @@ fn bare_or_name(alloc: Global, text: &[u8]) -> R<Option<Phrase>>
         let label = Phrase::Labelled(word, Vec::new(alloc), None, Vec::new(alloc));
         return Ok(Some(label));
     }
-    match name_of(alloc, text)? {
+    match name_of(text) {
         Some(name) => Ok(Some(Phrase::Name(name))),
         None => Ok(None),
     }
@@ -120,12 +118,12 @@ fn bare_or_name(alloc: Global, text: &[u8]) -> R<Option<Phrase>>
 
 /// The expression as a term: a bare label, a name, or a label in brackets with its parts.
 #[cycle(grammar)]
-pub(crate) fn phrase_of_expr(alloc: Global, expr: &Expr) -> R<Option<Phrase>>
+pub(crate) fn phrase_of_expr<'a>(alloc: Global, expr: &Expr<'a>) -> R<Option<Phrase<'a>>>
     ensures read { IfOk result (λ o. option_map phrase_seen o ≡ phrase_of (expr_of expr.now)) }
     ensures err { OnErr result (result ≡ Err TermError.Memory) }
 {
     let group = match expr {
-        Expr::Word(text) => return bare_or_name(alloc, text.as_bytes()),
+        Expr::Word(text) => return bare_or_name(alloc, text),
         Expr::Group(group) => group.as_slice(),
     };
     let Some((first, rest)) = group.split_first() else {
@@ -134,7 +132,7 @@ pub(crate) fn phrase_of_expr(alloc: Global, expr: &Expr) -> R<Option<Phrase>>
     let Expr::Word(text) = first else {
         return Ok(None);
     };
-    match written_word(text.as_bytes(), rest) {
+    match written_word(text, rest) {
         Some(word) => labelled(alloc, word, rest),
         None => Ok(None),
     }
@@ -142,7 +140,7 @@ pub(crate) fn phrase_of_expr(alloc: Global, expr: &Expr) -> R<Option<Phrase>>
 
 /// The expressions as the parts of a label of this word.
 #[cycle(grammar)]
-fn labelled(alloc: Global, word: Word, items: &[Expr]) -> R<Option<Phrase>>
+fn labelled<'a>(alloc: Global, word: Word, items: &[Expr<'a>]) -> R<Option<Phrase<'a>>>
     requires { IsTrue (are_built (row word).parts) }
     ensures read { IfOk result (λ o. option_map phrase_seen o ≡ labelled word (fit (exprs_in items.now) (row word).parts)) }
     ensures err { OnErr result (result ≡ Err TermError.Memory) }
@@ -161,7 +159,7 @@ fn labelled(alloc: Global, word: Word, items: &[Expr]) -> R<Option<Phrase>>
                 Some(kinds) => bind = Some(kinds),
                 None => return Ok(None),
             },
-            Part::AField(form) => match field_in(alloc, *form, &items[index])? {
+            Part::AField(form) => match field_in(*form, &items[index]) {
                 Some(field) => fields.push(field)?,
                 None => return Ok(None),
             },
@@ -176,7 +174,7 @@ fn labelled(alloc: Global, word: Word, items: &[Expr]) -> R<Option<Phrase>>
 
 /// The expression as a kid of this form.
 #[cycle(grammar)]
-fn kid_in(alloc: Global, form: KidForm, item: &Expr) -> R<Option<Phrase>>
+fn kid_in<'a>(alloc: Global, form: KidForm, item: &Expr<'a>) -> R<Option<Phrase<'a>>>
     ensures read { IfOk result (λ o. option_map phrase_seen o ≡ kid_in form (expr_of item.now)) }
     ensures err { OnErr result (result ≡ Err TermError.Memory) }
 {
@@ -189,7 +187,7 @@ fn kid_in(alloc: Global, form: KidForm, item: &Expr) -> R<Option<Phrase>>
 
 /// A group of terms as a list of this word.
 #[cycle(grammar)]
-fn list_in(alloc: Global, list: Word, item: &Expr) -> R<Option<Phrase>>
+fn list_in<'a>(alloc: Global, list: Word, item: &Expr<'a>) -> R<Option<Phrase<'a>>>
     ensures read { IfOk result (λ o. option_map phrase_seen o ≡ list_phrase list (phrases_in (expr_of item.now))) }
     ensures err { OnErr result (result ≡ Err TermError.Memory) }
 {
@@ -204,7 +202,7 @@ fn list_in(alloc: Global, list: Word, item: &Expr) -> R<Option<Phrase>>
 
 /// The expressions as terms.
 #[cycle(grammar)]
-fn phrases_of_items(alloc: Global, items: &[Expr]) -> R<Option<Vec<Phrase>>>
+fn phrases_of_items<'a>(alloc: Global, items: &[Expr<'a>]) -> R<Option<Vec<Phrase<'a>>>>
     ensures read { IfOk result (λ o. option_map (λ v. phrases_seen v.items) o ≡ phrases_of (exprs_in items.now)) }
     ensures err { OnErr result (result ≡ Err TermError.Memory) }
 {
@@ -219,7 +217,7 @@ fn phrases_of_items(alloc: Global, items: &[Expr]) -> R<Option<Vec<Phrase>>>
 }
 
 /// The term of a form of one term, behind its first word.
-fn one_term(alloc: Global, items: &[Expr]) -> R<Option<Phrase>>
+fn one_term<'a>(alloc: Global, items: &[Expr<'a>]) -> R<Option<Phrase<'a>>>
     ensures read { (make : PhraseRead → FormOf PhraseRead) → IfOk result (λ o. option_map (λ p. make (phrase_seen p)) o ≡ one_term make (expr_list (exprs_in items.now))) }
     ensures err { OnErr result (result ≡ Err TermError.Memory) }
 {
@@ -230,7 +228,7 @@ fn one_term(alloc: Global, items: &[Expr]) -> R<Option<Phrase>>
 }
 
 /// The form `let NAME TERM`, behind its first word.
-fn let_form(alloc: Global, items: &[Expr]) -> R<Option<Form>>
+fn let_form<'a>(alloc: Global, items: &[Expr<'a>]) -> R<Option<Form<'a>>>
     ensures read { IfOk result (λ o. option_map form_seen o ≡ let_read (expr_list (exprs_in items.now))) }
     ensures err { OnErr result (result ≡ Err TermError.Memory) }
 {
@@ -240,7 +238,7 @@ fn let_form(alloc: Global, items: &[Expr]) -> R<Option<Form>>
     let Expr::Word(word) = &items[0] else {
         return Ok(None);
     };
-    let Some(name) = name_of(alloc, word.as_bytes())? else {
+    let Some(name) = name_of(word) else {
         return Ok(None);
     };
     match phrase_of_expr(alloc, &items[1])? {
@@ -250,7 +248,7 @@ fn let_form(alloc: Global, items: &[Expr]) -> R<Option<Form>>
 }
 
 /// The form `same TERM TERM`, behind its first word.
-fn same_form(alloc: Global, items: &[Expr]) -> R<Option<Form>>
+fn same_form<'a>(alloc: Global, items: &[Expr<'a>]) -> R<Option<Form<'a>>>
     ensures read { IfOk result (λ o. option_map form_seen o ≡ two_terms form.Same (expr_list (exprs_in items.now))) }
     ensures err { OnErr result (result ≡ Err TermError.Memory) }
 {
@@ -302,27 +300,33 @@ fn command_of(word: &[u8]) -> Option<Command>
 }
 
 /// The form that this word begins, of the expressions behind it.
-fn form_begun(alloc: Global, word: &[u8], items: &[Expr]) -> R<Option<Form>>
+fn form_begun<'a>(alloc: Global, word: &[u8], items: &[Expr<'a>]) -> R<Option<Form<'a>>>
     ensures read { IfOk result (λ o. option_map form_seen o ≡ form_begun word.now (expr_list (exprs_in items.now))) }
     ensures err { OnErr result (result ≡ Err TermError.Memory) }
 {
     match command_of(word) {
         Some(Command::Let) => let_form(alloc, items),
-        Some(Command::Print) => Ok(one_term(alloc, items)?.map(Form::Print)),
+        Some(Command::Print) => match one_term(alloc, items)? {
+            Some(phrase) => Ok(Some(Form::Print(phrase))),
+            None => Ok(None),
+        },
         Some(Command::Same) => same_form(alloc, items),
-        Some(Command::Flags) => Ok(one_term(alloc, items)?.map(Form::Flags)),
+        Some(Command::Flags) => match one_term(alloc, items)? {
+            Some(phrase) => Ok(Some(Form::Flags(phrase))),
+            None => Ok(None),
+        },
         None => Ok(None),
     }
 }
 
 /// The form of a line's expressions; none where they have no form of the grammar.
-pub(crate) fn form_of_items(alloc: Global, items: &[Expr]) -> R<Option<Form>>
+pub(crate) fn form_of_items<'a>(alloc: Global, items: &[Expr<'a>]) -> R<Option<Form<'a>>>
     ensures read { IfOk result (λ o. option_map form_seen o ≡ form_of_exprs (expr_list (exprs_in items.now))) }
     ensures err { OnErr result (result ≡ Err TermError.Memory) }
 {
     match items.split_first() {
         None => Ok(Some(Form::Blank)),
-        Some((Expr::Word(word), rest)) => form_begun(alloc, word.as_bytes(), rest),
+        Some((Expr::Word(word), rest)) => form_begun(alloc, word, rest),
         Some((Expr::Group(_), _)) => Ok(None),
     }
 }

@@ -14,17 +14,17 @@ use crate::scope::Scope;
 use ir_laws::Word;
 
 /// Whether the kind has a name that isn't declared.
-fn unknown_kind(scope: &Scope, kind: &VariableKind) -> bool
+fn unknown_kind(scope: &Scope, kind: &VariableKind<'_>) -> bool
     ensures { (h : Heap Part) → unknown_kind (env_of h (scope_names scope.now)) None (kind_seen kind.now) ≡ if_so result Unknown }
 {
     match kind.name() {
-        Some(name) => scope.find(name.as_bytes()).is_none(),
+        Some(name) => scope.find(name).is_none(),
         None => false,
     }
 }
 
 /// Whether the field has such a name, whatever its place.
-fn unknown_field(scope: &Scope, field: &Field) -> bool
+fn unknown_field(scope: &Scope, field: &Field<'_>) -> bool
     ensures { (h : Heap Part) (form : FieldForm) → unknown_field (env_of h (scope_names scope.now)) None form (field_seen field.now) ≡ if_so result Unknown }
 {
     match field {
@@ -34,7 +34,7 @@ fn unknown_field(scope: &Scope, field: &Field) -> bool
 }
 
 /// Whether a field of the label has such a name.
-fn unknown_in_fields(scope: &Scope, word: Word, fields: &[Field]) -> bool
+fn unknown_in_fields(scope: &Scope, word: Word, fields: &[Field<'_>]) -> bool
     ensures unknown { (h : Heap Part) → result ≡ true → is_cause_among (by_form (unknown_field (env_of h (scope_names scope.now)) None) (field_forms (row word).parts) (mapped field_seen fields.now)) Unknown ≡ true }
     ensures known { (h : Heap Part) → result ≡ false → by_form (unknown_field (env_of h (scope_names scope.now)) None) (field_forms (row word).parts) (mapped field_seen fields.now) ≡ [] }
 {
@@ -47,7 +47,7 @@ fn unknown_in_fields(scope: &Scope, word: Word, fields: &[Field]) -> bool
 }
 
 /// Whether a kind that the label binds has such a name.
-fn unknown_in_bind(scope: &Scope, bind: &Option<Vec<VariableKind>>) -> bool
+fn unknown_in_bind(scope: &Scope, bind: &Option<Vec<VariableKind<'_>>>) -> bool
     ensures unknown { (h : Heap Part) → result ≡ true → is_cause_among (unknown_bind (env_of h (scope_names scope.now)) None (bind_seen bind.now)) Unknown ≡ true }
     ensures known { (h : Heap Part) → result ≡ false → unknown_bind (env_of h (scope_names scope.now)) None (bind_seen bind.now) ≡ [] }
 {
@@ -64,12 +64,12 @@ fn unknown_in_bind(scope: &Scope, bind: &Option<Vec<VariableKind>>) -> bool
 
 /// Whether a name stands in the phrase that isn't declared.
 #[cycle(names)]
-pub(crate) fn unknown_name(scope: &Scope, phrase: &Phrase) -> bool
+pub(crate) fn unknown_name(scope: &Scope, phrase: &Phrase<'_>) -> bool
     ensures unknown { (h : Heap Part) → result ≡ true → is_cause_among (unknown_in (env_of h (scope_names scope.now)) None (phrase_seen phrase.now)) Unknown ≡ true }
     ensures known { (h : Heap Part) → result ≡ false → unknown_in (env_of h (scope_names scope.now)) None (phrase_seen phrase.now) ≡ [] }
 {
     match phrase {
-        Phrase::Name(name) => scope.find(name.as_bytes()).is_none(),
+        Phrase::Name(name) => scope.find(name).is_none(),
         Phrase::Labelled(word, fields, bind, kids) => {
             unknown_in_fields(scope, *word, fields)
                 || unknown_in_bind(scope, bind)
@@ -80,7 +80,7 @@ pub(crate) fn unknown_name(scope: &Scope, phrase: &Phrase) -> bool
 
 /// Whether a name stands in one of the phrases that isn't declared.
 #[cycle(names)]
-fn unknown_among(scope: &Scope, phrases: &[Phrase]) -> bool
+fn unknown_among(scope: &Scope, phrases: &[Phrase<'_>]) -> bool
     ensures unknown { (h : Heap Part) → result ≡ true → is_cause_among (unknown_each (env_of h (scope_names scope.now)) None (phrases_seen phrases.now)) Unknown ≡ true }
     ensures known { (h : Heap Part) → result ≡ false → unknown_each (env_of h (scope_names scope.now)) None (phrases_seen phrases.now) ≡ [] }
 {

@@ -115,7 +115,7 @@ impl Wanted {
 }
 
 /// The sort of the first variable kind among the fields. Where there is none it counts as a list's.
-fn sort_of_fields(fields: &[Field]) -> Sort
+fn sort_of_fields(fields: &[Field<'_>]) -> Sort
     ensures { result ≡ sort_of_fields (mapped field_seen fields.now) }
 {
     for field in fields {
@@ -127,7 +127,7 @@ fn sort_of_fields(fields: &[Field]) -> Sort
 }
 
 /// The sort of a label of this word with these fields.
-fn sort_of(word: Word, fields: &[Field]) -> Sort
+fn sort_of(word: Word, fields: &[Field<'_>]) -> Sort
     ensures { result ≡ sort_of_label (label_seen word fields.now) }
 {
     match word.sort() {
@@ -156,17 +156,17 @@ fn next_kid(parts: &[Part], further: Wanted) -> (Wanted, &[Part])
 }
 
 /// The sort of the phrase; none for a name that stands for no term.
-fn sort_of_phrase(scope: &Scope, phrase: &Phrase) -> Option<Sort>
+fn sort_of_phrase(scope: &Scope, phrase: &Phrase<'_>) -> Option<Sort>
     ensures { (h : Heap PartSeen) → AreTerms h (scope_names scope.now) → result ≡ sort_in (env_of h (scope_names scope.now)) (phrase_seen phrase.now) }
 {
     match phrase {
-        Phrase::Name(name) => scope.sort_of(name.as_bytes()),
+        Phrase::Name(name) => scope.sort_of(name),
         Phrase::Labelled(word, fields, _, _) => Some(sort_of(*word, fields)),
     }
 }
 
 /// Whether both phrases have a sort, and it is one.
-pub(crate) fn have_one_sort(scope: &Scope, first: &Phrase, second: &Phrase) -> bool
+pub(crate) fn have_one_sort(scope: &Scope, first: &Phrase<'_>, second: &Phrase<'_>) -> bool
     ensures { (h : Heap PartSeen) → AreTerms h (scope_names scope.now) → result ≡ are_of_one_sort (sort_in (env_of h (scope_names scope.now)) (phrase_seen first.now)) (sort_in (env_of h (scope_names scope.now)) (phrase_seen second.now)) }
 {
     match (sort_of_phrase(scope, first), sort_of_phrase(scope, second)) {
@@ -176,7 +176,7 @@ pub(crate) fn have_one_sort(scope: &Scope, first: &Phrase, second: &Phrase) -> b
 }
 
 /// Whether the field has a name. It is not that of an item, as none is declared.
-fn is_named(field: &Field) -> bool
+fn is_named(field: &Field<'_>) -> bool
     ensures { (ts : List NamedTerm) (form : FieldForm) → field_misfits (named_only ts) form (field_seen field.now) ≡ if_so result WrongSort }
 {
     match field {
@@ -186,7 +186,7 @@ fn is_named(field: &Field) -> bool
 }
 
 /// Whether a field of the label has such a name.
-fn has_named_field(word: Word, fields: &[Field]) -> bool
+fn has_named_field(word: Word, fields: &[Field<'_>]) -> bool
     ensures named { (ts : List NamedTerm) → result ≡ true → is_cause_among (fields_misfits (named_only ts) (label_seen word fields.now)) WrongSort ≡ true }
     ensures nameless { (ts : List NamedTerm) → result ≡ false → fields_misfits (named_only ts) (label_seen word fields.now) ≡ [] }
 {
@@ -199,7 +199,7 @@ fn has_named_field(word: Word, fields: &[Field]) -> bool
 }
 
 /// Whether a kind that the label binds has such a name.
-fn has_named_variable(bind: &Option<Vec<VariableKind>>) -> bool
+fn has_named_variable(bind: &Option<Vec<VariableKind<'_>>>) -> bool
     ensures named { (ts : List NamedTerm) → result ≡ true → is_cause_among (bind_misfits (named_only ts) (bind_seen bind.now)) WrongSort ≡ true }
     ensures nameless { (ts : List NamedTerm) → result ≡ false → bind_misfits (named_only ts) (bind_seen bind.now) ≡ [] }
 {
@@ -215,7 +215,7 @@ fn has_named_variable(bind: &Option<Vec<VariableKind>>) -> bool
 }
 
 /// A fault of the phrase as an operand.
-pub(crate) fn misfit(scope: &Scope, phrase: &Phrase) -> Option<Cause>
+pub(crate) fn misfit(scope: &Scope, phrase: &Phrase<'_>) -> Option<Cause>
     ensures { (h : Heap PartSeen) → AreTerms h (scope_names scope.now) → Finds result (misfits (env_of h (scope_names scope.now)) operand (phrase_seen phrase.now)) }
 {
     misfit_in(scope, Wanted::Operand, phrase)
@@ -223,12 +223,12 @@ pub(crate) fn misfit(scope: &Scope, phrase: &Phrase) -> Option<Cause>
 
 /// A fault of the phrase in a place that wants this.
 #[cycle(places)]
-fn misfit_in(scope: &Scope, wanted: Wanted, phrase: &Phrase) -> Option<Cause>
+fn misfit_in(scope: &Scope, wanted: Wanted, phrase: &Phrase<'_>) -> Option<Cause>
     ensures { (h : Heap PartSeen) → AreTerms h (scope_names scope.now) → Finds result (misfits (env_of h (scope_names scope.now)) (wanted_seen wanted) (phrase_seen phrase.now)) }
 {
     match phrase {
         Phrase::Name(name) => {
-            let Some(sort) = scope.sort_of(name.as_bytes()) else {
+            let Some(sort) = scope.sort_of(name) else {
                 return Some(Cause::Sort);
             };
             if wanted.suits(sort) {
@@ -254,7 +254,12 @@ fn misfit_in(scope: &Scope, wanted: Wanted, phrase: &Phrase) -> Option<Cause>
 
 /// A fault of the kids, the first of which are wanted by the parts.
 #[cycle(places)]
-fn misfit_among(scope: &Scope, kids: &[Phrase], parts: &[Part], further: Wanted) -> Option<Cause>
+fn misfit_among(
+    scope: &Scope,
+    kids: &[Phrase<'_>],
+    parts: &[Part],
+    further: Wanted,
+) -> Option<Cause>
     ensures { (h : Heap PartSeen) → AreTerms h (scope_names scope.now) → Finds result (each_misfits (env_of h (scope_names scope.now)) (kids_wanted no_names [] parts.now) (wanted_seen further) (phrases_seen kids.now)) }
 {
     let mut rest = parts;

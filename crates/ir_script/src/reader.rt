@@ -11,13 +11,13 @@ use std::alloc::Global;
 
 /// A line that has a form of the grammar.
 #[derive(Drop)]
-pub struct Line {
+pub struct Line<'a> {
     /// Its words and groups, in order; none for a blank line.
-    pub parts: Exprs,
+    pub parts: Exprs<'a>,
 }
 
 /// The words and groups of the line. Syntax comes exactly where the line has no form of the grammar, unless memory is wanted.
-pub fn read_line(alloc: Global, line: &[u8]) -> Result<Line, Cause>
+pub fn read_line(alloc: Global, line: &[u8]) -> Result<Line<'_>, Cause>
     ensures parts { IfOk result (λ l. expressions_of line.now ≡ Some (exprs_in (items_of l.parts))) }
     ensures form { OnOk result (IsSome (form_of line.now)) }
     ensures refusal { IfErr result (λ c. (c ≡ Cause.Memory) ⊎ ((c ≡ Cause.Syntax) × (form_of line.now ≡ None))) }

@@ -1,14 +1,14 @@
 //! The names that earlier lines declare.
 ghost use Rattle.ir_core.specs.declared.errors.TermError.TheVariants.{Memory};
 ghost use Rattle.ir_script.specs.Scope.{scope_names, part_named};
-ghost use Rattle.ir_table.specs.Fits.{part_sort};
+ghost use Rattle.ir_nodes.specs.Fits.{part_sort};
 ghost use Rattle.std.specs.Option.{option_map};
 ghost use Rattle.std.specs.Prelude.{◌≡◌, ◌++◌, ◌∷◌, [], None, Err, OnErr, OnOk};
 
 use indexmap::IndexMap;
 use ir_core::{Part, R, TermError};
 use ir_laws::Sort;
-use ir_table::sort_of_part;
+use ir_nodes::sort_of_part;
 use std::alloc::Global;
 
 /// Names in the order in which they were declared, each with the part of its term.

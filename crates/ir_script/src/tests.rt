@@ -113,8 +113,10 @@ fn terms_have_fields_a_group_and_kids(rt: HostRuntime) -> Result<(), Fail> {
 /// Whether a name in the term is unknown where none is declared, and what misfits there.
 fn found(alloc: Global, line: &[u8]) -> R<Option<(bool, Option<Cause>)>> {
     let scope = Scope::new(alloc);
-    let found = printed(alloc, line)?;
-    Ok(found.map(|phrase| (unknown_name(&scope, &phrase), misfit(&scope, &phrase))))
+    match printed(alloc, line)? {
+        Some(phrase) => Ok(Some((unknown_name(&scope, &phrase), misfit(&scope, &phrase)))),
+        None => Ok(None),
+    }
 }
 
 #[test]

@@ -9,55 +9,52 @@ ghost use Rattle.std.specs.Prelude.{◌≡◌, map as mapped, option_map, Err, I
 use crate::expression::Expr;
 use crate::phrases::VariableKind;
 use crate::words::name_of;
-use ir_core::{R, TermError, Text};
+use ir_core::{R, TermError};
 use std::alloc::Global;
 
 /// The name behind these first bytes.
-fn name_after(alloc: Global, first: &[u8], text: &[u8]) -> R<Option<Text>>
-    ensures read { IfOk result (λ o. o ≡ and_then (after first.now text.now) name_of) }
-    ensures err { OnErr result (result ≡ Err TermError.Memory) }
+fn name_after<'a>(first: &[u8], text: &'a [u8]) -> Option<&'a [u8]>
+    ensures { option_map (λ name. name.now) result ≡ and_then (after first.now text.now) name_of }
 {
     match text.strip_prefix(first) {
-        Some(rest) => name_of(alloc, rest),
-        None => Ok(None),
+        Some(rest) => name_of(rest),
+        None => None,
     }
 }
 
 /// A region's kind: `r`, `r:NAME` or `env`.
-pub(crate) fn region_kind_of(alloc: Global, text: &[u8]) -> R<Option<VariableKind>>
-    ensures read { IfOk result (λ o. option_map kind_seen o ≡ region_kind_of text.now) }
-    ensures err { OnErr result (result ≡ Err TermError.Memory) }
+pub(crate) fn region_kind_of(text: &[u8]) -> Option<VariableKind<'_>>
+    ensures { option_map kind_seen result ≡ region_kind_of text.now }
 {
     match text {
-        b"r" => Ok(Some(VariableKind::Region(None))),
-        b"env" => Ok(Some(VariableKind::Environment)),
-        _ => match name_after(alloc, b"r:", text)? {
-            Some(name) => Ok(Some(VariableKind::Region(Some(name)))),
-            None => Ok(None),
+        b"r" => Some(VariableKind::Region(None)),
+        b"env" => Some(VariableKind::Environment),
+        _ => match name_after(b"r:", text) {
+            Some(name) => Some(VariableKind::Region(Some(name))),
+            None => None,
         },
     }
 }
 
 /// The kind that the text writes: a region's, or `t`, `t:NAME` or `c`.
-pub(crate) fn kind_of(alloc: Global, text: &[u8]) -> R<Option<VariableKind>>
-    ensures read { IfOk result (λ o. option_map kind_seen o ≡ kind_of text.now) }
-    ensures err { OnErr result (result ≡ Err TermError.Memory) }
+pub(crate) fn kind_of(text: &[u8]) -> Option<VariableKind<'_>>
+    ensures { option_map kind_seen result ≡ kind_of text.now }
 {
-    if let Some(kind) = region_kind_of(alloc, text)? {
-        return Ok(Some(kind));
+    if let Some(kind) = region_kind_of(text) {
+        return Some(kind);
     }
     match text {
-        b"t" => Ok(Some(VariableKind::Type(None))),
-        b"c" => Ok(Some(VariableKind::Constant)),
-        _ => match name_after(alloc, b"t:", text)? {
-            Some(name) => Ok(Some(VariableKind::Type(Some(name)))),
-            None => Ok(None),
+        b"t" => Some(VariableKind::Type(None)),
+        b"c" => Some(VariableKind::Constant),
+        _ => match name_after(b"t:", text) {
+            Some(name) => Some(VariableKind::Type(Some(name))),
+            None => None,
         },
     }
 }
 
 /// The expressions as kinds.
-fn kinds_of(alloc: Global, items: &[Expr]) -> R<Option<Vec<VariableKind>>>
+fn kinds_of<'a>(alloc: Global, items: &[Expr<'a>]) -> R<Option<Vec<VariableKind<'a>>>>
     ensures read { IfOk result (λ o. option_map (λ v. mapped kind_seen v.items) o ≡ and_then (words_of (exprs_in items.now)) (each_of kind_of)) }
     ensures err { OnErr result (result ≡ Err TermError.Memory) }
 {
@@ -66,7 +63,7 @@ fn kinds_of(alloc: Global, items: &[Expr]) -> R<Option<Vec<VariableKind>>>
         let Expr::Word(word) = item else {
             return Ok(None);
         };
-        match kind_of(alloc, word.as_bytes())? {
+        match kind_of(word) {
             Some(kind) => kinds.push(kind)?,
             None => return Ok(None),
         }
@@ -75,20 +72,18 @@ fn kinds_of(alloc: Global, items: &[Expr]) -> R<Option<Vec<VariableKind>>>
 }
 
 // The kinds behind the word `for`.
-fn kinds_behind_for(alloc: Global, items: &[Expr]) -> R<Option<Vec<VariableKind>>>
+fn kinds_behind_for<'a>(alloc: Global, items: &[Expr<'a>]) -> R<Option<Vec<VariableKind<'a>>>>
     ensures read { IfOk result (λ o. option_map (λ v. mapped kind_seen v.items) o ≡ bind_of (Group (exprs_in items.now))) }
     ensures err { OnErr result (result ≡ Err TermError.Memory) }
 {
     match items.split_first() {
-        Some((Expr::Word(word), rest)) if word.as_bytes() == b"for".as_slice() => {
-            kinds_of(alloc, rest)
-        }
+        Some((Expr::Word(word), rest)) if *word == b"for".as_slice() => { kinds_of(alloc, rest) }
         _ => Ok(None),
     }
 }
 
 /// The group `(for K*)`, as the kinds of the variables that are bound.
-pub(crate) fn bind_of(alloc: Global, item: &Expr) -> R<Option<Vec<VariableKind>>>
+pub(crate) fn bind_of<'a>(alloc: Global, item: &Expr<'a>) -> R<Option<Vec<VariableKind<'a>>>>
     ensures read { IfOk result (λ o. option_map (λ v. mapped kind_seen v.items) o ≡ bind_of (expr_of item.now)) }
     ensures err { OnErr result (result ≡ Err TermError.Memory) }
 {
@@ -105,7 +100,7 @@ mod tests {
     use std::test::Fail;
 
     // A kind as a letter: `t`, `r`, `e` and `c`, and a capital where it has a name. `-` is none.
-    fn letter(kind: &Option<VariableKind>) -> u8 {
+    fn letter(kind: &Option<VariableKind<'_>>) -> u8 {
         match kind {
             None => b'-',
             Some(VariableKind::Type(None)) => b't',
@@ -136,8 +131,8 @@ mod tests {
             (b"R", b'-', b'-'),
         ];
         for (text, want, region) in rows {
-            assert_eq!(rt; letter(&kind_of(rt.alloc(), text)?), want);
-            assert_eq!(rt; letter(&region_kind_of(rt.alloc(), text)?), region);
+            assert_eq!(rt; letter(&kind_of(text)), want);
+            assert_eq!(rt; letter(&region_kind_of(text)), region);
         }
         Ok(())
     }
@@ -146,7 +141,7 @@ mod tests {
     fn bound(alloc: Global, words: &[&[u8]]) -> R<Option<usize>> {
         let mut group = Exprs::new(alloc);
         for word in words {
-            group.push(Expr::Word(Text::from_bytes(alloc, word)?))?;
+            group.push(Expr::Word(word))?;
         }
         match bind_of(alloc, &Expr::Group(group))? {
             Some(kinds) => Ok(Some(kinds.len())),

@@ -9,10 +9,8 @@ ghost use Rattle.ir_laws.specs.Numeral.{
   name_of,
   number_of,
 };
-ghost use Rattle.std.specs.Prelude.{◌≡◌, Err, IfOk, OnErr};
-
-use ir_core::{R, TermError, Text};
-use std::alloc::Global;
+ghost use Rattle.std.specs.Option.{option_map};
+ghost use Rattle.std.specs.Prelude.{◌≡◌};
 
 /// The most bytes of a name.
 const NAME_BYTES: usize = 64;
@@ -53,14 +51,10 @@ fn is_name(text: &[u8]) -> bool
 }
 
 /// The text, where it is a name.
-pub(crate) fn name_of(alloc: Global, text: &[u8]) -> R<Option<Text>>
-    ensures read { IfOk result (λ o. o ≡ name_of text.now) }
-    ensures err { OnErr result (result ≡ Err TermError.Memory) }
+pub(crate) fn name_of(text: &[u8]) -> Option<&[u8]>
+    ensures { option_map (λ name. name.now) result ≡ name_of text.now }
 {
-    if !is_name(text) {
-        return Ok(None);
-    }
-    Ok(Some(Text::from_bytes(alloc, text)?))
+    if is_name(text) { Some(text) } else { None }
 }
 
 fn are_digits(text: &[u8]) -> bool

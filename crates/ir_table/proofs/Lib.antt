@@ -5,16 +5,11 @@ pub mod NodeLemmas
 pub mod SortLemmas
 pub mod PartLemmas
 pub mod MakeLemmas
-pub mod HandleLemmas
-pub mod NoneLemmas
-pub mod RowLemmas
-pub mod ShapeLemmas
 pub mod LoopLemmas
 pub mod NewLemmas
 pub mod RemakeLemmas
 pub mod MakesLemmas
 pub mod StartLemmas
-pub mod EmptyLemmas
 pub mod LastLemmas
 pub mod SpellingLemmas
 pub mod ListedLemmas

@@ -1,7 +1,7 @@
 -- What calls that make trees answer together.
-use Rattle.std.proofs.Common.{◌≡◌, List, [], ◌∷◌, ◌++◌, Result, Ok, Err, OnOk, true, ◌⊎◌, inl, inr, ⊎_elim, refl, sym, ap, subst, ◌∙◌, arith}
+use Rattle.std.proofs.Common.{◌≡◌, List, [], ◌∷◌, ◌++◌, Result, Ok, Err, true, ◌⊎◌, inl, inr, ⊎_elim, refl, sym, ap, ◌∙◌, arith}
+use Rattle.std.proofs.lemmas.Result.{on_ok_weaker}
 use Rattle.ir_core.specs.declared.errors.TermError.{TermError}
-use Rattle.ir_core.specs.declared.errors.TermError.TheVariants as error
 use Rattle.ir_core.specs.declared.handles.Part.{Part}
 use Rattle.ir_laws.specs.Heap.{Layer, Heap, IsLive, Grows, tree_of, tree_above}
 use Rattle.ir_laws.specs.Held.{Stands, HoldsJust, Counts}
@@ -16,31 +16,31 @@ use Rattle.ir_table.specs.State.{State, NewAnswers, Makes, fits}
 stands_on : (h k : Heap Part) (t : Term) → Grows h k → Stands h t → Stands k t
 stands_on h k t grows s = (s.0, grows.live s.0 s.1, grows.tree s.0 s.1 ∙ s.2)
 
-pub makes_none : (s : State) → Makes {T = Unit {0}} s s [] (Ok tt)
-makes_none s = record {
-  grows = Grows-refl s.heap;
-  only = λ p live. inl live;
-  all = λ t e. absurd (no_part t e);
-  too_deep = λ e. absurd (cc e);
-  too_many = λ e. absurd (cc e);
+-- a call that answers a value
+makes_value : {T : Type 0} (old new : State) (ts : List Term) (x : T) → Grows old.heap new.heap → ((p : Part) → IsLive new.heap p → IsLive old.heap p ⊎ (is_part ts (tree_of new.heap p) ≡ true))
+    → ((t : Term) → is_part ts t ≡ true → Stands new.heap t) → new.limits ≡ old.limits → Makes old new ts (Ok x)
+makes_value old new ts x grows only all limits = record {
+  grows = grows;
+  only = only;
+  all = all;
+  too_deep = λ q. absurd (cc q);
+  too_many = λ q. absurd (cc q);
   causes = tt;
-  limits = refl;
+  limits = limits;
 }
+
+pub makes_none : (s : State) → Makes {T = Unit {0}} s s [] (Ok tt)
+makes_none s = makes_value s s [] tt (Grows-refl s.heap) (λ p live. inl live) (λ t e. absurd (no_part t e)) refl
 
 module _ {T : Type 0} {name : T → Part} (old new : State) (l : Layer Part) where
   pub makes_new : (r : Result T TermError) (t : Term) → Counts old.heap old.count → t ≡ tree_above old.heap l → NewAnswers name old new l r → Makes old new (t ∷ []) r
-  makes_new (Ok x) t counted e a = record {
-    grows = a.ok.grows;
-    only = λ p now. ⊎_elim inl (λ same. inr (part_is t [] (tree_of new.heap p) (e ∙ sym a.ok.tree ∙ sym (ap (tree_of new.heap) same)))) (a.ok.only p now);
-    all = λ u m. ⊎_elim (λ here. (name x, a.ok.live, a.ok.tree ∙ sym e ∙ here)) (λ none. absurd (no_part u none)) (part_of_cons t [] u m);
-    too_deep = λ q. absurd (cc q);
-    too_many = λ q. absurd (cc q);
-    causes = tt;
-    limits = a.limits;
-  }
-  makes_new (Err x) t counted e a = record {
-    grows = subst (λ (s : State). Grows old.heap s.heap) (sym a.err) (Grows-refl old.heap);
-    only = λ p now. inl (subst (λ (s : State). IsLive s.heap p) a.err now);
+  makes_new (Ok x) t counted e a = makes_value old new (t ∷ []) x a.ok.grows
+      (λ p now. ⊎_elim inl (λ same. inr (part_is t [] (tree_of new.heap p) (e ∙ sym a.ok.tree ∙ sym (ap (tree_of new.heap) same)))) (a.ok.only p now))
+      (λ u m. ⊎_elim (λ here. (name x, a.ok.live, a.ok.tree ∙ sym e ∙ here)) (λ none. absurd (no_part u none)) (part_of_cons t [] u m))
+      a.limits
+  makes_new (Err x) t counted e a = rw a.err (record {
+    grows = Grows-refl old.heap;
+    only = λ p now. inl now;
     all = tt;
     too_deep = λ q. (t, part_here t [], ap (fits old) e ∙ a.too_deep q);
     too_many = λ q us covers.
@@ -49,8 +49,8 @@ module _ {T : Type 0} {name : T → Part} (old new : State) (l : Layer Part) whe
         let less = without_shorter t us (covers.new t (part_here t [])) in
         omega arith;
     causes = a.causes;
-    limits = a.limits;
-  }
+    limits = refl;
+  })
 
 -- one call after another
 pub makes_then : {T U : Type 0} (old mid new : State) (ts us : List Term) (x : T) (r : Result U TermError)
@@ -61,7 +61,7 @@ makes_then {U = U} old mid new ts us x r a b = record {
       (λ before. ⊎_elim inl (λ made. inr (part_left ts us (tree_of new.heap p) (ap (is_part ts) (b.grows.tree p before) ∙ made))) (a.only p before))
       (λ made. inr (part_right ts us (tree_of new.heap p) made))
       (b.only p live);
-  all = by r b.all;
+  all = on_ok_weaker r (λ rest t m. ⊎_elim (λ first. stands_on mid.heap new.heap t b.grows (a.all t first)) (rest t) (part_of_append ts us t m)) b.all;
   too_deep = λ q. let w = b.too_deep q in (w.0, part_right ts us w.0 w.1, ap (λ (l : Limits). is_within (capped l) w.0) (sym a.limits) ∙ w.2);
   too_many = λ q vs covers.
       let more = b.too_many q vs (record {
@@ -76,10 +76,6 @@ makes_then {U = U} old mid new ts us x r a b = record {
   causes = b.causes;
   limits = b.limits ∙ a.limits;
 }
-  where
-    by : (r : Result U TermError) → OnOk r ((t : Term) → is_part us t ≡ true → Stands new.heap t) → OnOk r ((t : Term) → is_part (ts ++ us) t ≡ true → Stands new.heap t)
-    by (Ok y) all = λ t m. ⊎_elim (λ first. stands_on mid.heap new.heap t b.grows (a.all t first)) (all t) (part_of_append ts us t m)
-    by (Err y) all = tt
 
 -- a refused call, as one that makes more trees and has another answer
 pub makes_err : {T U : Type 0} (old new : State) (ts us : List Term) (e : TermError) → Makes {T = T} old new ts (Err e)
@@ -88,8 +84,8 @@ makes_err {T = T} old new ts us e a more = record {
   grows = a.grows;
   only = λ p live. ⊎_elim inl (λ made. inr (more (tree_of new.heap p) made)) (a.only p live);
   all = tt;
-  too_deep = λ q. let same : e ≡ error.TooDeep = cc in let w = a.too_deep (ap Err same) in (w.0, more w.0 w.1, w.2);
-  too_many = λ q vs covers. let same : e ≡ error.TooMany = cc in a.too_many (ap Err same) vs (record { held = covers.held; new = λ t m. covers.new t (more t m) });
+  too_deep = λ q. let w = a.too_deep (cc) in (w.0, more w.0 w.1, w.2);
+  too_many = λ q vs covers. a.too_many (cc) vs (record { held = covers.held; new = λ t m. covers.new t (more t m) });
   causes = a.causes;
   limits = a.limits;
 }
@@ -98,27 +94,11 @@ makes_err {T = T} old new ts us e a more = record {
 pub makes_same : {T : Type 0} (old new : State) (ts us : List Term) (r : Result T TermError) → Makes old new ts r
     → ((t : Term) → is_part ts t ≡ true → is_part us t ≡ true) → ((t : Term) → is_part us t ≡ true → is_part ts t ≡ true) → Makes old new us r
 makes_same old new ts us (Err e) a more back = makes_err old new ts us e a more
-makes_same old new ts us (Ok x) a more back = record {
-  grows = a.grows;
-  only = λ p live. ⊎_elim inl (λ made. inr (more (tree_of new.heap p) made)) (a.only p live);
-  all = λ t m. a.all t (back t m);
-  too_deep = λ q. absurd (cc q);
-  too_many = λ q. absurd (cc q);
-  causes = tt;
-  limits = a.limits;
-}
+makes_same old new ts us (Ok x) a more back = makes_value old new us x a.grows (λ p live. ⊎_elim inl (λ made. inr (more (tree_of new.heap p) made)) (a.only p live)) (λ t m. a.all t (back t m)) a.limits
 
 -- the same with another value
 pub makes_ok : {T U : Type 0} (old new : State) (ts : List Term) (x : T) (y : U) → Makes old new ts (Ok x) → Makes old new ts (Ok y)
-makes_ok old new ts x y a = record {
-  grows = a.grows;
-  only = a.only;
-  all = a.all;
-  too_deep = λ q. absurd (cc q);
-  too_many = λ q. absurd (cc q);
-  causes = tt;
-  limits = a.limits;
-}
+makes_ok old new ts x y a = makes_value old new ts y a.grows a.only a.all a.limits
 
 -- what is held afterwards
 pub makes_held : {T : Type 0} (old new : State) (ts held us : List Term) (x : T) → HoldsJust old.heap held → Makes old new ts (Ok x) → is_set us ≡ true

@@ -1,14 +1,14 @@
 -- What `new` answers, and what a live part is, for those who call.
-use Rattle.std.proofs.Common.{◌≡◌, ◌≤◌, ◌∙◌, refl, List, [], ◌∷◌, ◌++◌, map, Option, Some, Result, Ok, Err, IsOk, inl, inr, subst, sym, ap, true, true≢false}
+use Rattle.std.proofs.Common.{◌≡◌, ◌≤◌, ◌∙◌, refl, List, [], ◌∷◌, ◌++◌, map, Option, Some, Result, Ok, Err, IsOk, inl, inr, subst, sym, ap, true≢false}
 use Rattle.std.specs.Iterator.{HoldsAlong, Yields}
-use Rattle.ir_laws.specs.Heap.{Layer, Each, Heap, is_binder, IsLive, IsSound, Grows, Holds, shape_over, kid_trees, tree_of}
+use Rattle.ir_laws.specs.Heap.{Layer, Each, Heap, IsLive, IsSound, Grows, Holds, shape_over, kid_trees, tree_of}
 use Rattle.ir_laws.specs.Counts.{sort_of, sort_of_label}
 use Rattle.ir_core.specs.declared.errors.TermError.{TermError}
 use Rattle.ir_core.specs.declared.errors.TermError.TheVariants as error
 use Rattle.ir_core.specs.declared.handles.Part.{Part}
 use Rattle.ir_core.specs.Parts.{sort_in}
 use Rattle.ir_table.specs.declared.store.Tables.{Tables}
-use Rattle.ir_table.specs.Fits.{part_sort}
+use Rattle.ir_nodes.specs.Fits.{part_sort}
 use Rattle.ir_table.specs.Heaps.{heap_of}
 use Rattle.ir_table.specs.Interner.{heap}
 use Rattle.ir_table.specs.Iterated.{AnswersItems}
@@ -16,17 +16,14 @@ use Rattle.ir_table.specs.declared.Interner.{Interner}
 use Rattle.ir_table.specs.State.{State, IsLow, NewAnswers, fits, width}
 use Rattle.ir_laws.proofs.HeapLemmas.{Grows-refl, node_of, tree_of-node}
 use Rattle.ir_laws.proofs.PlantLemmas.{sort-plant}
-use Rattle.ir_table.proofs.HandleLemmas.{sort_back}
-use Rattle.ir_core.specs.declared.handles.BoundVarKinds.{BoundVarKinds}
-use Rattle.ir_core.specs.declared.handles.Part.TheVariants as part
-use Rattle.ir_table.proofs.PartLemmas.{sorted, variables_bind}
-use Rattle.ir_table.proofs.SortLemmas.{AllFit}
+use Rattle.ir_nodes.proofs.FitLemmas.{sort_back}
+use Rattle.ir_table.proofs.PartLemmas.{sorted}
 
 module _ {T : Type 0} {name : T → Part} {old new : State} {l : Layer Part} where
   -- whatever it answers, the heap grew
   pub new_grows : (r : Result T TermError) → NewAnswers name old new l r → Grows old.heap new.heap
   new_grows (Ok t) a = a.ok.grows
-  new_grows (Err e) a = subst (λ (s : State). Grows old.heap s.heap) (sym a.err) (Grows-refl old.heap)
+  new_grows (Err e) a = rw a.err (Grows-refl old.heap)
 
   -- a node that is held is given its name, and no memory is needed
   pub new_succeeds : IsLow old → Holds old.heap l → width l ≤ 8 → (r : Result T TermError) → NewAnswers name old new l r → IsOk r
@@ -83,7 +80,3 @@ live_sort t sound p live =
     let x = node_of (heap_of t) p live in
     ap sort_of (tree_of-node (heap_of t) sound p x.0 x.1) ∙ sort-plant (shape_over (heap_of t) x.0.layer) (kid_trees (heap_of t) (tree_of (heap_of t)) x.0.layer.kids)
     ∙ sort_back (sort_of_label x.0.layer.label) x.0.layer.label.word (sort_in p) (sorted t p x.0 x.1)
-
--- a live list of variables binds
-pub live_binder : (t : Tables) → AllFit (heap_of t) → (v : BoundVarKinds) → IsLive (heap_of t) (part.BoundVarKinds v) → is_binder (heap_of t) (Some (part.BoundVarKinds v)) ≡ true
-live_binder t fit v live = variables_bind (heap_of t) (sorted t) fit (part.BoundVarKinds v) refl live

@@ -1,5 +1,5 @@
 -- What is computed of a node before it is made.
-use Rattle.std.specs.Prelude.{◌≡◌, ℕ, ◌+◌, ◌-◌, ◌^◌, ◌≤◌, ◌⊎◌, max, min, Bool, true, false, ◌&&◌, nat_le, bit_or, sum_by, List, [], ◌∷◌, Option, None}
+use Rattle.std.specs.Prelude.{◌≡◌, ℕ, ◌+◌, ◌-◌, ◌^◌, ◌≤◌, max, min, Bool, true, false, ◌&&◌, nat_le, bit_or, List, Option, None}
 use Rattle.std.specs.Option.{option_map_or}
 use Rattle.ir_core.specs.Flags.{bits_of}
 use Rattle.ir_core.specs.declared.errors.TermError.{TermError}
@@ -9,15 +9,15 @@ use Rattle.ir_core.specs.declared.variables.BoundVarIndexKind.{BoundVarIndexKind
 use Rattle.ir_core.specs.declared.variables.BoundVarIndexKind.TheVariants as index
 use Rattle.ir_laws.specs.Flag.{HAS_CANONICAL_BOUND}
 use Rattle.ir_laws.specs.declared.words.Word.TheVariants.{CanonicalVariable}
-use Rattle.ir_laws.specs.Counts.{flags, outer, bind_size, binder_flag, field_size, own_flags}
-use Rattle.ir_laws.specs.Heap.{Heap, OfNames, Layer, Sketch, leaf_of, plant, own_size, largest, total, size_cap, cached_height, cached_size, cached_flags, cached_outer, height_above, size_above, shape_over, tree_above}
-use Rattle.ir_laws.specs.Label.{row}
+use Rattle.ir_laws.specs.Counts.{flags, outer, bind_size, binder_flag}
+use Rattle.ir_laws.specs.Heap.{Heap, Layer, Sketch, plant, own_size, largest, total, size_cap, cached_height, cached_size, cached_flags, cached_outer, height_above, size_above, shape_over, tree_above, union}
 use Rattle.ir_laws.specs.Limits.{Limits, capped, first_number}
 use Rattle.ir_core.specs.declared.ids.SolverDefId.{SolverDefId}
 use Rattle.ir_laws.specs.Tree.{Label, Var, Param, Node, End, Term}
 use Rattle.ir_laws.specs.Word.{same_word}
 use Rattle.ir_table.specs.declared.above.Above.{Above}
-use Rattle.ir_table.specs.declared.nodes.CachedInfo.{CachedInfo}
+use Rattle.ir_table.specs.declared.info.CachedInfo.{CachedInfo}
+use Rattle.ir_table.specs.Info.{size_in}
 use Rattle.ir_table.specs.State.{State, capacity}
 
 -- the index and the number that a term has by itself: a variable's
@@ -34,7 +34,7 @@ tree_number (Node l b ts) = elim (same_word l.word CanonicalVariable) [ true ↦
 -- what is kept beside a node is what is cached of it
 pub record KeptAt (o : Option (Sketch Part)) (c : CachedInfo) : Type 0 where
   pub height : c.height ≡ option_map_or (λ s. s.height) o 0
-  pub size : c.size ≡ option_map_or (λ s. s.size) o 0
+  pub size : size_in c.size ≡ option_map_or (λ s. s.size) o 0
   pub flags : bits_of c.flags ≡ option_map_or (λ s. s.flags) o 0
   pub outer : c.outer_exclusive_binder.0 ≡ option_map_or (λ s. s.outer) o 0
 
@@ -45,17 +45,6 @@ KeptOf h p c = KeptAt (h p) c
 abbrev pub alone : Label SolverDefId → Term
 alone l = plant (record { label = l; bind = None }) End
 
--- the label is no variable's and no parameter's, and has the flags of its word alone
-pub record IsPlain (l : Label SolverDefId) : Type 0 where
-  pub leaf : leaf_of l ≡ None
-  pub flags : own_flags l ≡ (row l.word).flags
-  pub number : same_word l.word CanonicalVariable ≡ false
-  pub size : sum_by field_size l.fields ≡ 0
-
--- a variable's or a parameter's label has neither
-abbrev pub IsBare : Layer Part → Type 0
-IsBare l = (leaf_of l.label ≡ None) ⊎ ((l.binder ≡ None) × (l.kids ≡ OfNames []))
-
 -- what is computed is that of the label alone, before it is counted itself
 pub record IsOwn (l : Label SolverDefId) (a : Above) : Type 0 where
   pub height : a.height ≡ 0
@@ -64,11 +53,6 @@ pub record IsOwn (l : Label SolverDefId) (a : Above) : Type 0 where
   pub outer : a.outer ≡ outer (alone l)
   pub index : a.index ≡ tree_index (alone l)
   pub number : a.number ≡ tree_number (alone l)
-
--- the flags of all names together
-abbrev pub flags_of_all : Heap Part → List Part → ℕ
-flags_of_all h [] = 0
-flags_of_all h (p ∷ ps) = bit_or (cached_flags h p) (flags_of_all h ps)
 
 -- what a variable with this index is by itself
 abbrev pub variable_flags : BoundVarIndexKind → ℕ → ℕ
@@ -96,7 +80,7 @@ pub record IsLeaf (a : Above) : Type 0 where
 pub record WithKids (h : Heap Part) (ps : List Part) (a b : Above) : Type 0 where
   pub height : b.height ≡ max a.height (largest (cached_height h) ps)
   pub size : min b.size size_cap ≡ min (a.size + total (cached_size h) ps) size_cap
-  pub flags : bits_of b.flags ≡ bit_or (bits_of a.flags) (flags_of_all h ps)
+  pub flags : bits_of b.flags ≡ bit_or (bits_of a.flags) (union (cached_flags h) ps)
   pub outer : b.outer ≡ max a.outer (largest (cached_outer h) ps)
   pub index : b.index ≡ a.index
   pub number : b.number ≡ a.number
@@ -126,7 +110,7 @@ is_low limits a = nat_le a.height limits.height && (nat_le a.index limits.index 
 -- it is what is kept; an outer binder is kept in 32 bits
 pub record KeptAs (c : CachedInfo) (a : Above) : Type 0 where
   pub height : c.height ≡ a.height
-  pub size : c.size ≡ a.size
+  pub size : size_in c.size ≡ a.size
   pub flags : c.flags ≡ a.flags
   pub outer : c.outer_exclusive_binder.0 ≡ min a.outer (2 ^ 32 - 1)
 

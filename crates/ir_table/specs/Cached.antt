@@ -4,12 +4,13 @@ use Rattle.ir_core.specs.Flags.{bits_of}
 use Rattle.ir_laws.specs.Counts.{flags, height, outer, size}
 use Rattle.ir_laws.specs.Heap.{size_cap}
 use Rattle.ir_laws.specs.Tree.{Term}
-use Rattle.ir_table.specs.declared.nodes.CachedInfo.{CachedInfo}
+use Rattle.ir_table.specs.declared.info.CachedInfo.{CachedInfo}
+use Rattle.ir_table.specs.Info.{size_in}
 
 -- what is kept is what is counted over the tree
 pub record Tells (t : Term) (c : CachedInfo) : Type 0 where
   pub height : c.height ≡ height t
-  pub size : c.size ≡ min size_cap (size t)
+  pub size : size_in c.size ≡ min size_cap (size t)
   pub flags : bits_of c.flags ≡ flags t
   pub outer : c.outer_exclusive_binder.0 ≡ outer t
 

@@ -5,7 +5,7 @@ use Rattle.ir_laws.specs.Heap.{Heap, Sketch}
 use Rattle.ir_core.specs.declared.handles.PartSort.{PartSort}
 use Rattle.ir_core.specs.declared.handles.PartSort.TheVariants as sort
 use Rattle.ir_table.specs.declared.store.Tables.{Tables}
-use Rattle.ir_table.specs.Fits.{is_of, layer_sort}
+use Rattle.ir_nodes.specs.Fits.{is_of, layer_sort}
 use Rattle.ir_core.specs.Parts.{index_in, sort_in}
 
 -- the table that has the parts of the sort

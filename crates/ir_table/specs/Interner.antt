@@ -7,7 +7,7 @@ use Rattle.ir_core.specs.declared.handles.Tys.{Tys}
 use Rattle.ir_core.specs.declared.limit.Limits.{Limits as GivenLimits}
 use Rattle.ir_laws.specs.Heap.{HasNode, Heap}
 use Rattle.ir_table.specs.Heaps.{count_of, heap_of}
-use Rattle.ir_table.specs.Nodes.{tys_layer}
+use Rattle.ir_nodes.specs.Nodes.{tys_layer}
 use Rattle.ir_table.specs.Limits.{limits_seen}
 use Rattle.ir_table.specs.declared.Interner.{Interner}
 use Rattle.ir_table.specs.declared.store.Store.{Store}

@@ -1,8 +1,5 @@
 pub mod Coding
-pub mod Nodes
-pub mod Fits
-pub mod Exact
-pub mod ExactNode
+pub mod Info
 pub mod Table
 pub mod Heaps
 pub mod Limits
@@ -10,10 +7,6 @@ pub mod State
 pub mod Above
 pub mod Tabled
 pub mod Owned
-pub mod Shapes
-pub mod Views
-pub mod Values
-pub mod Layers
 pub mod Spelled
 pub mod Cached
 pub mod Start

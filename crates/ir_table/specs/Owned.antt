@@ -4,7 +4,7 @@ use Rattle.std.proofs.Common.{refl, arith}
 use Rattle.std.proofs.lemmas.List.{length_push}
 use Rattle.ir_core.specs.declared.handles.PartSort.{PartSort}
 use Rattle.ir_core.specs.declared.handles.PartSort.TheVariants as sort
-use Rattle.ir_table.specs.Fits.{is_term}
+use Rattle.ir_nodes.specs.Fits.{is_term}
 use Rattle.ir_table.specs.Tabled.{IsTable}
 
 abbrev pub owns_nodes : PartSort → Bool
@@ -13,9 +13,9 @@ owns_nodes g = is_term (Some g)
 pub nodes_table : IsTable owns_nodes (λ t. t.nodes) (λ t es. record t { nodes = es })
 nodes_table = record {
   back = λ t. refl;
-  own = λ t es. elim [ sort.Tys ↦ λ e. absurd (cc e) | sort.GenericArgs ↦ λ e. absurd (cc e) | sort.PatList ↦ λ e. absurd (cc e) | sort.BoundExistentialPredicates ↦ λ e. absurd (cc e) | sort.Clauses ↦ λ e. absurd (cc e) | sort.RegionAssumptions ↦ λ e. absurd (cc e) | sort.BoundVarKinds ↦ λ e. absurd (cc e) | sort.VariancesOf ↦ λ e. absurd (cc e) | _ ↦ λ e. refl ];
-  other = λ t es. elim [ sort.Tys ↦ λ e. refl | sort.GenericArgs ↦ λ e. refl | sort.PatList ↦ λ e. refl | sort.BoundExistentialPredicates ↦ λ e. refl | sort.Clauses ↦ λ e. refl | sort.RegionAssumptions ↦ λ e. refl | sort.BoundVarKinds ↦ λ e. refl | sort.VariancesOf ↦ λ e. refl | _ ↦ λ e. absurd (cc e) ];
-  count = λ t es s. let l = length_push es s in omega arith;
+  own = λ t es. elim [ sort.Ty ↦ λ e. cc | _ ↦ λ e. cc ];
+  other = λ t es. elim [ sort.Ty ↦ λ e. cc | _ ↦ λ e. cc ];
+  count = λ t es s. omega (arith, length_push es s);
   few = λ t. omega arith;
 }
 
@@ -26,9 +26,9 @@ owns_type_lists _ = false
 pub type_lists_table : IsTable owns_type_lists (λ t. t.type_lists) (λ t es. record t { type_lists = es })
 type_lists_table = record {
   back = λ t. refl;
-  own = λ t es. elim [ sort.Tys ↦ λ e. refl | _ ↦ λ e. absurd (cc e) ];
-  other = λ t es. elim [ sort.Tys ↦ λ e. absurd (cc e) | _ ↦ λ e. refl ];
-  count = λ t es s. let l = length_push es s in omega arith;
+  own = λ t es. elim [ sort.Ty ↦ λ e. cc | _ ↦ λ e. cc ];
+  other = λ t es. elim [ sort.Ty ↦ λ e. cc | _ ↦ λ e. cc ];
+  count = λ t es s. omega (arith, length_push es s);
   few = λ t. omega arith;
 }
 
@@ -39,9 +39,9 @@ owns_variable_lists _ = false
 pub variable_lists_table : IsTable owns_variable_lists (λ t. t.variable_lists) (λ t es. record t { variable_lists = es })
 variable_lists_table = record {
   back = λ t. refl;
-  own = λ t es. elim [ sort.BoundVarKinds ↦ λ e. refl | _ ↦ λ e. absurd (cc e) ];
-  other = λ t es. elim [ sort.BoundVarKinds ↦ λ e. absurd (cc e) | _ ↦ λ e. refl ];
-  count = λ t es s. let l = length_push es s in omega arith;
+  own = λ t es. elim [ sort.Ty ↦ λ e. cc | _ ↦ λ e. cc ];
+  other = λ t es. elim [ sort.Ty ↦ λ e. cc | _ ↦ λ e. cc ];
+  count = λ t es s. omega (arith, length_push es s);
   few = λ t. omega arith;
 }
 
@@ -52,9 +52,9 @@ owns_variance_lists _ = false
 pub variance_lists_table : IsTable owns_variance_lists (λ t. t.variance_lists) (λ t es. record t { variance_lists = es })
 variance_lists_table = record {
   back = λ t. refl;
-  own = λ t es. elim [ sort.VariancesOf ↦ λ e. refl | _ ↦ λ e. absurd (cc e) ];
-  other = λ t es. elim [ sort.VariancesOf ↦ λ e. absurd (cc e) | _ ↦ λ e. refl ];
-  count = λ t es s. let l = length_push es s in omega arith;
+  own = λ t es. elim [ sort.Ty ↦ λ e. cc | _ ↦ λ e. cc ];
+  other = λ t es. elim [ sort.Ty ↦ λ e. cc | _ ↦ λ e. cc ];
+  count = λ t es s. omega (arith, length_push es s);
   few = λ t. omega arith;
 }
 
@@ -70,8 +70,8 @@ owns_empty_lists _ = false
 pub empty_lists_table : IsTable owns_empty_lists (λ t. t.empty_lists) (λ t es. record t { empty_lists = es })
 empty_lists_table = record {
   back = λ t. refl;
-  own = λ t es. elim [ sort.GenericArgs ↦ λ e. refl | sort.PatList ↦ λ e. refl | sort.BoundExistentialPredicates ↦ λ e. refl | sort.Clauses ↦ λ e. refl | sort.RegionAssumptions ↦ λ e. refl | _ ↦ λ e. absurd (cc e) ];
-  other = λ t es. elim [ sort.GenericArgs ↦ λ e. absurd (cc e) | sort.PatList ↦ λ e. absurd (cc e) | sort.BoundExistentialPredicates ↦ λ e. absurd (cc e) | sort.Clauses ↦ λ e. absurd (cc e) | sort.RegionAssumptions ↦ λ e. absurd (cc e) | _ ↦ λ e. refl ];
-  count = λ t es s. let l = length_push es s in omega arith;
+  own = λ t es. elim [ sort.Ty ↦ λ e. cc | _ ↦ λ e. cc ];
+  other = λ t es. elim [ sort.Ty ↦ λ e. cc | _ ↦ λ e. cc ];
+  count = λ t es s. omega (arith, length_push es s);
   few = λ t. omega arith;
 }

@@ -9,10 +9,10 @@ use Rattle.ir_laws.specs.Same.{same_sort}
 use Rattle.ir_laws.specs.Counts.{sort_of_label}
 use Rattle.ir_laws.specs.Spelling.{bind_texts, field_text, in_brackets, label_text, part_texts, spell}
 use Rattle.ir_laws.specs.Heap.{Heap, shape_over, tree_of}
-use Rattle.ir_table.specs.declared.nodes.Node.{Node}
-use Rattle.ir_table.specs.declared.layers.List.{List as ListRead}
-use Rattle.ir_table.specs.Layers.{list_kids}
-use Rattle.ir_table.specs.Nodes.{kids_in, node_layer}
+use Rattle.ir_nodes.specs.declared.nodes.Node.{Node}
+use Rattle.ir_nodes.specs.declared.layers.List.{List as ListRead}
+use Rattle.ir_nodes.specs.Layers.{list_kids}
+use Rattle.ir_nodes.specs.Nodes.{kids_in, node_layer}
 
 -- an id without a name is spelled `?`
 abbrev pub name_text : (SolverDefId → Option Text) → SolverDefId → Text

@@ -21,9 +21,9 @@ use Rattle.ir_laws.specs.Start.{start_parts, leaf, node_by, unit}
 use Rattle.ir_laws.specs.Tree.{End, Term}
 use Rattle.ir_table.specs.declared.start.Leaf.{Leaf}
 use Rattle.ir_table.specs.declared.start.Leaf.TheVariants as row
-use Rattle.ir_table.specs.declared.store.EmptyList.TheVariants as empty
-use Rattle.ir_table.specs.Fits.{is_term, layer_fits, layer_sort, part_by}
-use Rattle.ir_table.specs.Nodes.{empty_layer, layer, tys_layer, variables_layer, variances_layer}
+use Rattle.ir_nodes.specs.declared.layers.EmptyList.TheVariants as empty
+use Rattle.ir_nodes.specs.Fits.{is_term, layer_fits, layer_sort, part_by}
+use Rattle.ir_nodes.specs.Nodes.{empty_layer, layer, tys_layer, variables_layer, variances_layer}
 
 -- a part and a tree
 abbrev pub Named : Type 0

@@ -3,29 +3,20 @@ ghost use Rattle.ir_core.specs.Flags.{bits_of};
 ghost use Rattle.ir_core.specs.declared.handles.Part.TheVariants as part;
 ghost use Rattle.ir_laws.specs.Heap.{Each, IsLive, names_in, size_cap, tree_above, tree_of};
 ghost use Rattle.ir_table.specs.Cached.{Tells};
-ghost use Rattle.ir_table.specs.Above.{
-  IsAbove,
-  IsBare,
-  IsLeaf,
-  IsOwn,
-  IsPlain,
-  WithKids,
-  WithVariables,
-  variable_flags,
-  variable_index,
-  variable_outer,
-};
+ghost use Rattle.ir_table.specs.Above.{IsAbove, IsLeaf, IsOwn, WithKids, WithVariables, variable_flags, variable_index, variable_outer};
+ghost use Rattle.ir_nodes.specs.Plain.{IsBare, IsPlain};
 ghost use Rattle.ir_laws.specs.Counts.{bound_flag, placeholder_flags};
-ghost use Rattle.ir_table.specs.Fits.{fits_row};
+ghost use Rattle.ir_nodes.specs.Fits.{fits_row};
 ghost use Rattle.ir_table.specs.Heaps.{heap_of};
-ghost use Rattle.ir_table.specs.Nodes.{node_layer, tys_layer, variable_seen};
+ghost use Rattle.ir_nodes.specs.Nodes.{node_layer, tys_layer, variable_seen};
 ghost use Rattle.std.specs.Prelude.{◌≡◌, ◌+◌, ◌-◌, ◌<◌, ◌≤◌, ◌^◌, ◌∷◌, [], Some, if◌then◌else◌, true};
 
 use crate::store::Store;
-use crate::{CachedInfo, Content, Kids, ListKey, Node};
+use crate::{CachedInfo, CachedSize, ListKey};
 use bitflags::Flags;
 use ir_core::{BoundVar, BoundVarIndexKind, BoundVarKind, DebruijnIndex, Part, Ty, TypeFlags};
 use ir_laws::Word;
+use ir_nodes::{Content, Kids, Node};
 
 // A size past this is kept as this.
 const SIZE_CAP: u64 = (1 << 48) + 1;
@@ -191,7 +182,7 @@ impl Store {
         let cached = self.cached(kid);
         Above {
             height: above.height.max(cached.height as u64),
-            size: above.size.saturating_add(cached.size).min(SIZE_CAP),
+            size: above.size.saturating_add(cached.size.get()).min(SIZE_CAP),
             flags: above.flags.union(cached.flags),
             outer: above.outer.max(cached.outer_exclusive_binder.0 as u64),
             ..above
@@ -250,7 +241,7 @@ impl Store {
         let above = self.above_node(Above::begin(node.word.flags()), node);
         CachedInfo {
             height: above.height as u32,
-            size: above.size,
+            size: CachedSize::new(above.size),
             flags: above.flags,
             outer_exclusive_binder: DebruijnIndex(above.outer as u32),
         }

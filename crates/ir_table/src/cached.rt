@@ -8,17 +8,16 @@ ghost use Rattle.ir_laws.specs.Heap.{Each, IsLive, size_cap};
 ghost use Rattle.ir_table.specs.Cached.{Tells, has_some_of, not_global};
 ghost use Rattle.ir_table.specs.Heaps.{heap_of};
 ghost use Rattle.ir_table.specs.Interner.{heap};
-ghost use Rattle.ir_table.specs.Values.{IsTold, binder_value, signature_value, value_names, value_tree};
-ghost use Rattle.ir_table.specs.declared.values.Value.{Value as ValueSeen};
-ghost use Rattle.ir_table.specs.declared.values.Value.TheVariants as value;
+ghost use Rattle.ir_nodes.specs.Values.{IsTold, binder_value, signature_value, value_names, value_tree};
+ghost use Rattle.ir_nodes.specs.declared.values.Value.{Value as ValueSeen};
+ghost use Rattle.ir_nodes.specs.declared.values.Value.TheVariants as value;
 ghost use Rattle.std.specs.Prelude.{◌≡◌, ◌↔◌, ◌+◌, ◌<◌, IsTrue, None, Some, min, not};
 
 use crate::store::Store;
-use crate::views::{abi_keyword, safety_keyword, variadic_keyword};
-use crate::{CachedInfo, Content, Interner, Live, Node, Value};
+use crate::{CachedInfo, Interner, Live};
 use bitflags::Flags;
-use ir_core::{Binder, BoundVarKinds, DebruijnIndex, FnSig, Handle, Part, TypeFlags};
-use ir_laws::Word;
+use ir_core::{Binder, DebruijnIndex, FnSig, Handle, Part, TypeFlags};
+use ir_nodes::{Value, binder_value, signature_value};
 
 // The flags of what only its surroundings give a meaning: those of parameters, variables to be inferred, placeholders, local regions and aliases.
 const LOCAL_FLAGS: u32 = 0x7fff;
@@ -84,7 +83,7 @@ pub trait Cached: Copy {
         requires { Each (IsLive (heap cx.now)) (value_names (value self)) }
         ensures { result ≡ min size_cap (size (value_tree (heap cx.now) (value self))) }
     {
-        self.info(cx).size
+        self.info(cx).size.get()
     }
 
     /// Whether a variable in it is bound by the binder that so many others stand before, or further out.
@@ -130,25 +129,6 @@ pub trait Cached: Copy {
     }
 }
 
-// The value of a signature, under a binder or opened.
-fn signature_value(sig: FnSig, binder: Option<BoundVarKinds>) -> Value
-    ensures value { result ≡ signature_value sig binder }
-    ensures told { IsTold result }
-{
-    let safety = safety_keyword(sig.safety);
-    let abi = abi_keyword(sig.abi);
-    let variadic = variadic_keyword(sig.c_variadic);
-    let types = Part::Tys(sig.inputs_and_output);
-    let content = match binder {
-        None => Content::Opened(safety, abi, variadic, types),
-        Some(variables) => Content::Signature(safety, abi, variadic, variables, types),
-    };
-    Value::Node(Node {
-        word: Word::FnPtrType,
-        content,
-    })
-}
-
 // A part of any sort.
 impl Cached for Part {
     ghost value = { value.Part };
@@ -190,9 +170,6 @@ impl<T: Live> Cached for Binder<T> {
     ghost value = { λ b. binder_value b.bound_vars (T.part b.value) };
 
     fn as_value(self) -> Value {
-        Value::Node(Node {
-            word: Word::UnsafeBinderType,
-            content: Content::BoundOne(self.bound_vars(), self.skip_binder().as_part()),
-        })
+        binder_value(self.bound_vars(), self.skip_binder().as_part())
     }
 }

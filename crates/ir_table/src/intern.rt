@@ -3,12 +3,12 @@ ghost use Rattle.ir_laws.specs.Counts.{flags, outer};
 ghost use Rattle.ir_laws.specs.Heap.{Layer, Each, IsLive, HasNode, names_in, tree_of};
 ghost use Rattle.ir_core.specs.Flags.{bits_of};
 ghost use Rattle.ir_laws.specs.Counts.{sort_of_label};
-ghost use Rattle.ir_table.specs.Fits.{fits_row, layer_sort, term_sort};
+ghost use Rattle.ir_nodes.specs.Fits.{fits_row, layer_sort, term_sort};
 ghost use Rattle.ir_table.specs.Heaps.{heap_of};
 ghost use Rattle.ir_table.specs.Interner.{Asks, heap, rises, state, stored};
-ghost use Rattle.ir_table.specs.Nodes.{node_layer};
+ghost use Rattle.ir_nodes.specs.Nodes.{node_layer};
 ghost use Rattle.ir_table.specs.Owned.{owns_nodes};
-ghost use Rattle.ir_table.specs.declared.nodes.Node.{Node as NodeSeen};
+ghost use Rattle.ir_nodes.specs.declared.nodes.Node.{Node as NodeSeen};
 ghost use Rattle.ir_table.specs.Iterated.{AnswersItems, AnswersItemsOrErr, GivesLive, GivesLiveOrErr};
 ghost use Rattle.ir_table.specs.State.{NewAnswers};
 ghost use Rattle.ir_core.specs.declared.handles.Part.{Part};
@@ -18,8 +18,9 @@ ghost use Rattle.std.specs.Prelude.{◌≡◌, ◌↔◌, [], Err, length, List,
 ghost use Rattle.std.specs.Slice.Iter.{iter_rest};
 
 use crate::store::Store;
-use crate::{Interner, Live, Node};
+use crate::{Interner, Live};
 use ir_core::{Handle, Part, R, TermError, WithCachedTypeInfo};
+use ir_nodes::Node;
 use std::alloc::Global;
 use std::iter::Copied;
 use std::slice::Iter;

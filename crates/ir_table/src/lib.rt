@@ -3,6 +3,7 @@
 
 mod above;
 mod cached;
+mod info;
 mod intern;
 mod laws;
 mod layers;
@@ -11,7 +12,6 @@ mod lists;
 mod live;
 mod make;
 mod names;
-mod nodes;
 mod remake;
 mod spelling;
 mod start;
@@ -21,29 +21,23 @@ mod tabled;
 mod terms;
 #[cfg(test)]
 mod tests;
-mod values;
-mod views;
 
 ghost use Rattle.ir_table.specs.Heaps.{heap_of};
 ghost use Rattle.ir_table.specs.Start.{are_named};
 ghost use Rattle.std.specs.Prelude.{◌≡◌, true};
 
 pub use cached::Cached;
+pub use info::{CachedInfo, CachedSize};
 pub use intern::{Intern, InternList};
 use ir_core::{DefaultAny, Limits};
 pub use laws::{equal_handles, held_nodes_are_given, interning_only_adds, parts_are_counted};
-pub use layers::{Layer, List};
 pub use listed::{Listed, variables_are_listed};
 pub use lists::{dummy, inputs, output};
 pub use live::Live;
 pub use names::{Names, NoNames};
-pub use nodes::{CachedInfo, Content, Field, Kids, Node};
 pub use spelling::spell;
-pub use store::EmptyList;
 use store::Store;
 pub use table::{Key, ListKey, Member, Table};
-pub use terms::{part_of, sort_of_part, term_of};
-pub use values::Value;
 
 /// All terms, and the limits of these: each part is held once, and its handle is its place in the table of its sort.
 #[derive(Drop)]

@@ -11,15 +11,16 @@ ghost use Rattle.ir_laws.specs.Listed.{
 };
 ghost use Rattle.ir_laws.specs.Tree.{Var};
 ghost use Rattle.ir_table.specs.Interner.{heap};
-ghost use Rattle.ir_table.specs.Layers.{layer_seen};
-ghost use Rattle.ir_table.specs.Nodes.{variable_seen};
+ghost use Rattle.ir_nodes.specs.Layers.{layer_seen};
+ghost use Rattle.ir_nodes.specs.Nodes.{variable_seen};
 ghost use Rattle.ir_table.specs.Listed.{AreFit, AreListed};
 ghost use Rattle.std.specs.Prelude.{◌≡◌, ◌<◌, [], Err, IfOk, None, OnErr, OnOk, map as mapped};
 
-use crate::{Cached, InternList, Interner, Layer};
+use crate::{Cached, InternList, Interner};
 use bitflags::Flags;
 use indexmap::IndexSet;
 use ir_core::{BoundVar, BoundVarKind, DebruijnIndex, Part, R, TypeFlags};
+use ir_nodes::Layer;
 use std::alloc::Global;
 
 // The flags of bound variables.

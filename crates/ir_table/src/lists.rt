@@ -5,9 +5,9 @@ ghost use Rattle.ir_laws.specs.Counts.{outer};
 ghost use Rattle.ir_laws.specs.Heap.{Each, HasNode, IsLive, names_in};
 ghost use Rattle.ir_table.specs.Heaps.{heap_of};
 ghost use Rattle.ir_table.specs.Interner.{HasTypes, heap, rises, stored};
-ghost use Rattle.ir_table.specs.Nodes.{tys_layer, variables_layer, variances_layer};
+ghost use Rattle.ir_nodes.specs.Nodes.{tys_layer, variables_layer, variances_layer};
 ghost use Rattle.ir_table.specs.State.{NewAnswers};
-ghost use Rattle.ir_table.specs.Values.{value_names, value_tree};
+ghost use Rattle.ir_nodes.specs.Values.{value_names, value_tree};
 ghost use Rattle.std.specs.Prelude.{◌≡◌, ◌++◌, ◌<◌, [], ◌∷◌, length, List};
 
 use crate::store::Store;
@@ -19,8 +19,8 @@ use ir_core::{
 use smallvec::SmallVec;
 
 impl Member for Ty {
-    ghost use Rattle.ir_table.specs.ExactNode.{types_told};
-    ghost use Rattle.ir_table.specs.Nodes.{tys_layer};
+    ghost use Rattle.ir_nodes.specs.ExactNode.{types_told};
+    ghost use Rattle.ir_nodes.specs.Nodes.{tys_layer};
     ghost use Rattle.std.proofs.Common.{rules};
 
     ghost list_layer = { tys_layer };
@@ -31,8 +31,8 @@ impl Member for Ty {
 }
 
 impl Member for BoundVarKind {
-    ghost use Rattle.ir_table.specs.ExactNode.{variables_told};
-    ghost use Rattle.ir_table.specs.Nodes.{variables_layer};
+    ghost use Rattle.ir_nodes.specs.ExactNode.{variables_told};
+    ghost use Rattle.ir_nodes.specs.Nodes.{variables_layer};
     ghost use Rattle.std.proofs.Common.{rules};
 
     ghost list_layer = { variables_layer };
@@ -43,8 +43,8 @@ impl Member for BoundVarKind {
 }
 
 impl Member for Variance {
-    ghost use Rattle.ir_table.specs.ExactNode.{variances_told};
-    ghost use Rattle.ir_table.specs.Nodes.{variances_layer};
+    ghost use Rattle.ir_nodes.specs.ExactNode.{variances_told};
+    ghost use Rattle.ir_nodes.specs.Nodes.{variances_layer};
     ghost use Rattle.std.proofs.Common.{rules};
 
     ghost list_layer = { variances_layer };

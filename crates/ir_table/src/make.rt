@@ -1,6 +1,6 @@
 //! The one making call.
 ghost use Rattle.ir_laws.specs.Heap.{Each, IsLive, names_in};
-ghost use Rattle.ir_table.specs.Fits.{layer_fits, layer_sort, part_by};
+ghost use Rattle.ir_nodes.specs.Fits.{layer_fits, layer_sort, part_by};
 ghost use Rattle.ir_table.specs.Heaps.{heap_of};
 ghost use Rattle.ir_table.specs.Interner.{rises, stored};
 ghost use Rattle.ir_table.specs.Tabled.{is_owned};

@@ -3,17 +3,18 @@ ghost use Rattle.ir_core.specs.declared.handles.Part.TheVariants as part;
 ghost use Rattle.ir_laws.specs.Heap.{Each, IsLive};
 ghost use Rattle.ir_laws.specs.declared.words.Word.TheVariants.{TypeList};
 ghost use Rattle.ir_core.specs.Parts.{sort_in};
-ghost use Rattle.ir_table.specs.Fits.{are_types};
+ghost use Rattle.ir_nodes.specs.Fits.{are_types};
 ghost use Rattle.ir_table.specs.Heaps.{heap_of};
 ghost use Rattle.ir_table.specs.Interner.{Asks, heap, rises, state, stored};
-ghost use Rattle.ir_table.specs.Layers.{kid_sorts, layer_at, over_kids};
-ghost use Rattle.ir_table.specs.Nodes.{layer, tys_kids};
+ghost use Rattle.ir_nodes.specs.Layers.{kid_sorts, layer_at, over_kids};
+ghost use Rattle.ir_nodes.specs.Nodes.{layer, tys_kids};
 ghost use Rattle.ir_table.specs.State.{NewAnswers};
 ghost use Rattle.std.specs.Prelude.{◌≡◌, ◌<◌, ◌≤◌, [], IfSome, IfOk, IsOk, OnErr, length, map, true};
 
+use crate::Interner;
 use crate::store::Store;
-use crate::{Interner, Layer};
 use ir_core::{Part, R, Ty, Tys};
+use ir_nodes::Layer;
 use smallvec::SmallVec;
 use std::alloc::{AllocError, Global};
 

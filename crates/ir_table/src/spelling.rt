@@ -3,8 +3,8 @@ ghost use Rattle.ir_core.specs.declared.errors.TermError.TheVariants as error;
 ghost use Rattle.ir_laws.specs.Heap.{Each, IsLive, names_in, tree_of};
 ghost use Rattle.ir_laws.specs.Spelling.{bind_text, field_text, kind_text, spell as spelling};
 ghost use Rattle.ir_table.specs.Interner.{heap};
-ghost use Rattle.ir_table.specs.Layers.{list_kids};
-ghost use Rattle.ir_table.specs.Nodes.{field_seen, node_layer, variable_seen};
+ghost use Rattle.ir_nodes.specs.Layers.{list_kids};
+ghost use Rattle.ir_nodes.specs.Nodes.{field_seen, node_layer, variable_seen};
 ghost use Rattle.ir_table.specs.Spelled.{
   Begins,
   IsNoList,
@@ -13,12 +13,13 @@ ghost use Rattle.ir_table.specs.Spelled.{
   node_text,
   places_text,
 };
-ghost use Rattle.ir_table.specs.Views.{part_of};
+ghost use Rattle.ir_nodes.specs.Views.{part_of};
 ghost use Rattle.std.specs.Prelude.{◌≡◌, ◌++◌, codes, Err, OnOk, OnErr, map as mapped};
 
-use crate::{Field, InternList, Interner, Layer, List, Names, Node, part_of};
+use crate::{InternList, Interner, Names};
 use ir_core::{AnyTerm, BoundRegionKind, BoundTyKind, BoundVarKind, Part, R, SolverDefId, Text};
 use ir_laws::Part as Place;
+use ir_nodes::{Field, Layer, List, Node, part_of};
 use std::alloc::Global;
 
 /// Puts the spelling of the term behind the text, with the items' names; an item without a name is `?`. It is refused only for want of memory, and the text is then as it was.

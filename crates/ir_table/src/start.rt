@@ -11,8 +11,8 @@ ghost use Rattle.ir_table.specs.Start.{HoldsStart, IsStartRefusal, Names, compou
 ghost use Rattle.ir_table.specs.State.{Makes, NewAnswers};
 ghost use Rattle.std.specs.Prelude.{◌≡◌, ◌<◌, ◌≤◌, ◌++◌, ◌∷◌, [], Err, IfErr, IfOk, OnOk, drop, take, true};
 
-use crate::store::{EmptyList, Store};
-use crate::{Content, Interner, Node};
+use crate::Interner;
+use crate::store::Store;
 use ir_core::{
     BoundExistentialPredicates, BoundRegionKind, BoundVarKind, BoundVarKinds, Clauses, Const,
     DefaultAny, DefaultConsts, DefaultEmpty, DefaultRegions, DefaultTypes, GenericArgs, Limits,
@@ -20,6 +20,7 @@ use ir_core::{
     VariancesOf,
 };
 use ir_laws::Word;
+use ir_nodes::{Content, EmptyList, Node};
 use smallvec::SmallVec;
 use std::alloc::Global;
 

@@ -3,7 +3,7 @@ ghost use Rattle.ir_core.specs.declared.handles.Part.{Part as PartSeen};
 ghost use Rattle.ir_laws.specs.Heap.{IsLive, IsSound, Sketch, tree_of};
 ghost use Rattle.ir_laws.specs.Held.{Counts};
 ghost use Rattle.ir_laws.specs.Limits.{capped, is_within};
-ghost use Rattle.ir_table.specs.Fits.{layer_fits};
+ghost use Rattle.ir_nodes.specs.Fits.{layer_fits};
 ghost use Rattle.ir_table.specs.Heaps.{count_of, heap_of};
 ghost use Rattle.ir_table.specs.Limits.{limits_seen};
 ghost use Rattle.ir_laws.proofs.HeapLemmas.{sound_prop};
@@ -11,38 +11,11 @@ ghost use Rattle.ir_laws.proofs.HeldLemmas.{Counts-prop};
 ghost use Rattle.std.specs.Prelude.{◌≡◌, ◌≤◌, Some, true};
 
 use crate::above::Above;
-use crate::{CachedInfo, Node, Table};
-use ir_core::{BoundVarKind, DebruijnIndex, Limits, PartSort, R, TermError, Ty, Variance};
+use crate::{CachedInfo, CachedSize, Table};
+use ir_core::{BoundVarKind, DebruijnIndex, Limits, R, TermError, Ty, Variance};
+use ir_nodes::{EmptyList, Node};
 use smallvec::SmallVec;
 use std::alloc::Global;
-
-/// The lists whose members are not built yet: each sort has its empty list alone.
-#[derive(Clone, Copy, PartialEq, Eq, Hash, Debug)]
-pub enum EmptyList {
-    GenericArgs,
-    PatList,
-    BoundExistentialPredicates,
-    Clauses,
-    RegionAssumptions,
-}
-
-impl EmptyList {
-    ghost use Rattle.ir_table.specs.Fits.{layer_sort};
-    ghost use Rattle.ir_table.specs.Nodes.{empty_layer};
-
-    /// The sort of the handle that names it.
-    pub(crate) fn sort(self) -> PartSort
-        ensures { layer_sort (empty_layer self) ≡ Some result }
-    {
-        match self {
-            EmptyList::GenericArgs => PartSort::GenericArgs,
-            EmptyList::PatList => PartSort::PatList,
-            EmptyList::BoundExistentialPredicates => PartSort::BoundExistentialPredicates,
-            EmptyList::Clauses => PartSort::Clauses,
-            EmptyList::RegionAssumptions => PartSort::RegionAssumptions,
-        }
-    }
-}
 
 /// One table of nodes, and one for each sort of lists.
 pub(crate) struct Tables {
@@ -153,7 +126,7 @@ impl Store {
         }
         Ok(CachedInfo {
             height: above.height as u32,
-            size: above.size,
+            size: CachedSize::new(above.size),
             flags: above.flags,
             outer_exclusive_binder: DebruijnIndex(above.outer.min(u32::MAX as u64) as u32),
         })

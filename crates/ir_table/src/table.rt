@@ -2,9 +2,9 @@
 ghost use Rattle.std.specs.Prelude.{◌≡◌, ◌<◌, ◌≤◌, ◌++◌, ◌∷◌, [], None, Some, length, slice_get, true, IsOk, IfOk, IfSome, IfNone, OnOk, OnErr, option_map};
 ghost use Rattle.ir_core.specs.declared.handles.Part.{Part};
 ghost use Rattle.ir_laws.specs.Heap.{Layer};
-ghost use Rattle.ir_table.specs.Nodes.{sketch};
+ghost use Rattle.ir_table.specs.Info.{sketch};
 ghost use Rattle.ir_table.specs.Table.{HasNone, StandsAt};
-ghost use Rattle.ir_table.specs.declared.nodes.CachedInfo.{CachedInfo};
+ghost use Rattle.ir_table.specs.declared.info.CachedInfo.{CachedInfo};
 
 use crate::CachedInfo;
 use indexmap::IndexMap;
@@ -59,7 +59,7 @@ pub trait ListKey: Key {
 }
 
 impl<T: Member> Key for SmallVec<T, 8> {
-    ghost use Rattle.ir_table.specs.Exact.{layers_decide};
+    ghost use Rattle.ir_nodes.specs.Exact.{layers_decide};
 
     ghost layer = { λ v. T.list_layer v.items };
 
@@ -90,7 +90,7 @@ impl<K: Key> Model for Table<K> {
     ghost use Rattle.std.specs.Prelude.{List, map as mapped};
     ghost use Rattle.ir_core.specs.declared.handles.Part.{Part};
     ghost use Rattle.ir_laws.specs.Heap.{Sketch};
-    ghost use Rattle.ir_table.specs.Nodes.{sketch};
+    ghost use Rattle.ir_table.specs.Info.{sketch};
     ghost use Rattle.ir_table.specs.Coding.{kids_code};
     ghost use Rattle.std.specs.Coded.{codes};
 

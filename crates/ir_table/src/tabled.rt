@@ -2,7 +2,7 @@
 ghost use Rattle.ir_core.specs.declared.handles.Part.{Part};
 ghost use Rattle.ir_laws.specs.Heap.{Each, IsLive, Sketch, names_in};
 ghost use Rattle.ir_table.specs.Above.{IsAbove};
-ghost use Rattle.ir_table.specs.Fits.{layer_fits, layer_sort};
+ghost use Rattle.ir_nodes.specs.Fits.{layer_fits, layer_sort};
 ghost use Rattle.ir_table.specs.Heaps.{heap_of};
 ghost use Rattle.ir_table.specs.Tabled.{IsTable, is_owned};
 ghost use Rattle.ir_table.specs.Table.{HasNone, StandsAt};
@@ -10,13 +10,14 @@ ghost use Rattle.ir_core.specs.declared.handles.PartSort.{PartSort};
 ghost use Rattle.ir_core.specs.declared.handles.PartSort.TheVariants as sort;
 ghost use Rattle.ir_table.specs.declared.store.Tables.{Tables};
 ghost use Rattle.std.specs.Prelude.{◌≡◌, ◌++◌, ◌∷◌, [], Bool, List, true, false, length, IfNone, IfSome, OnErr, OnOk};
-ghost use Rattle.ir_table.specs.Nodes.{sketch};
+ghost use Rattle.ir_table.specs.Info.{sketch};
 ghost use Rattle.std.proofs.Common.{refl};
 
 use crate::above::{Above, node_own};
 use crate::store::{Store, Tables};
-use crate::{CachedInfo, EmptyList, Key, Node};
+use crate::{CachedInfo, Key};
 use ir_core::{BoundVarKind, Ty, Variance};
+use ir_nodes::{EmptyList, Node};
 use smallvec::SmallVec;
 use std::alloc::AllocError;
 
@@ -56,8 +57,8 @@ pub(crate) trait Tabled: Key {
 }
 
 impl Key for Node {
-    ghost use Rattle.ir_table.specs.Nodes.{node_layer};
-    ghost use Rattle.ir_table.specs.ExactNode.{nodes_decide};
+    ghost use Rattle.ir_nodes.specs.Nodes.{node_layer};
+    ghost use Rattle.ir_nodes.specs.ExactNode.{nodes_decide};
 
     ghost layer = { node_layer };
 
@@ -177,8 +178,8 @@ impl Tabled for SmallVec<Variance, 8> {
 }
 
 impl Key for EmptyList {
-    ghost use Rattle.ir_table.specs.Nodes.{empty_layer};
-    ghost use Rattle.ir_table.specs.ExactNode.{empties_decide};
+    ghost use Rattle.ir_nodes.specs.Nodes.{empty_layer};
+    ghost use Rattle.ir_nodes.specs.ExactNode.{empties_decide};
 
     ghost layer = { empty_layer };
 

@@ -1,14 +1,10 @@
 //! Types, regions and constants: the handles of nodes.
 ghost use Rattle.std.proofs.Common.{refl};
-ghost use Rattle.ir_laws.specs.declared.labels.Sort.TheVariants.{OfList};
-ghost use Rattle.ir_table.specs.Fits.{part_sort};
-ghost use Rattle.ir_table.specs.Views.{const_node, part_of, region_node, ty_node};
-ghost use Rattle.std.specs.Prelude.{◌≡◌, ◌≢◌};
+ghost use Rattle.ir_nodes.specs.Views.{const_node, region_node, ty_node};
 
-use crate::views::{const_node, const_of, region_node, region_of, ty_node, ty_of};
-use crate::{Intern, Live, Node};
-use ir_core::{AnyTerm, Const, ConstKind, Part, Region, RegionKind, Ty, TyKind};
-use ir_laws::Sort;
+use crate::{Intern, Live};
+use ir_core::{Const, ConstKind, Region, RegionKind, Ty, TyKind};
+use ir_nodes::{Node, const_node, const_of, region_node, region_of, ty_node, ty_of};
 
 impl Live for Ty {}
 
@@ -61,55 +57,5 @@ impl Intern for Const {
 
     fn to_kind(node: Node) -> ConstKind {
         const_of(node)
-    }
-}
-
-/// The part that names the term.
-pub fn part_of(term: AnyTerm) -> Part
-    ensures { result ≡ part_of term }
-{
-    match term {
-        AnyTerm::Ty(ty) => Part::Ty(ty),
-        AnyTerm::Region(region) => Part::Region(region),
-        AnyTerm::Const(konst) => Part::Const(konst),
-    }
-}
-
-/// The term that the part names, which is no list.
-pub fn term_of(part: Part) -> AnyTerm
-    requires { part_sort part ≢ OfList }
-    ensures { part_of result ≡ part }
-{
-    match part {
-        Part::Ty(ty) => AnyTerm::Ty(ty),
-        Part::Const(konst) => AnyTerm::Const(konst),
-        Part::Region(region) => AnyTerm::Region(region),
-        Part::Tys(_)
-        | Part::GenericArgs(_)
-        | Part::PatList(_)
-        | Part::BoundExistentialPredicates(_)
-        | Part::Clauses(_)
-        | Part::RegionAssumptions(_)
-        | Part::BoundVarKinds(_)
-        | Part::VariancesOf(_) => unreachable!(),
-    }
-}
-
-/// The sort of what the part is, where each list counts as one sort.
-pub fn sort_of_part(part: Part) -> Sort
-    ensures { result ≡ part_sort part }
-{
-    match part {
-        Part::Ty(_) => Sort::OfType,
-        Part::Const(_) => Sort::OfConstant,
-        Part::Region(_) => Sort::OfRegion,
-        Part::Tys(_)
-        | Part::GenericArgs(_)
-        | Part::PatList(_)
-        | Part::BoundExistentialPredicates(_)
-        | Part::Clauses(_)
-        | Part::RegionAssumptions(_)
-        | Part::BoundVarKinds(_)
-        | Part::VariancesOf(_) => Sort::OfList,
     }
 }

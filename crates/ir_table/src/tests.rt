@@ -2,14 +2,14 @@
 ghost use Rattle.ir_core.specs.declared.handles.Part.TheVariants as part;
 ghost use Rattle.ir_laws.specs.Heap.{Each, IsLive, names_in};
 ghost use Rattle.ir_table.specs.Interner.{heap};
-ghost use Rattle.ir_table.specs.Nodes.{node_layer};
-ghost use Rattle.ir_table.specs.Values.{value_names};
-ghost use Rattle.ir_table.specs.Views.{part_of, ty_node};
+ghost use Rattle.ir_nodes.specs.Nodes.{node_layer};
+ghost use Rattle.ir_nodes.specs.Values.{value_names};
+ghost use Rattle.ir_nodes.specs.Views.{part_of, ty_node};
 ghost use Rattle.std.specs.Prelude.{◌≡◌, IfOk};
 
 use crate::{
-    Cached, Intern, InternList, Interner, Layer, List, Listed, Live, Names, NoNames, inputs,
-    output, part_of, spell, variables_are_listed,
+    Cached, Intern, InternList, Interner, Listed, Live, Names, NoNames, inputs, output, spell,
+    variables_are_listed,
 };
 use bitflags::Flags;
 use ir_core::{
@@ -19,6 +19,7 @@ use ir_core::{
     Region, RegionKind, Safety, SolverDefId, TermError, Text, Ty, TyKind, Tys, UintTy, Variance,
     VariancesOf,
 };
+use ir_nodes::{Layer, List, part_of};
 use std::alloc::Global;
 use std::test::Fail;
 

@@ -17,7 +17,7 @@ print-requires-clause-formed c = form_formed (expr_list (exprs_in c.as_slice.res
     (sym c.in_ok-form_of_items.ensures.read ∙ ap (option_map form_seen) (c.in-Some-Print.is ∙ ap Some c.in-Some-Print.field-0-is))
 
 pub declare-requires-clause-formed : goal.declare-requires-clause-formed
-declare-requires-clause-formed c = form_formed (expr_list (exprs_in c.as_slice.result.now)) (Let c.in-Some-Let.name (phrase_seen c.in-Some-Let.phrase))
+declare-requires-clause-formed c = form_formed (expr_list (exprs_in c.as_slice.result.now)) (Let c.in-Some-Let.name.now (phrase_seen c.in-Some-Let.phrase))
     (sym c.in_ok-form_of_items.ensures.read ∙ ap (option_map form_seen) (c.in-Some-Let.is ∙ ap Some c.in-Some-Let.field-0-is))
 
 pub same-requires-clause-formed : goal.same-requires-clause-formed
@@ -31,8 +31,8 @@ flags-requires-clause-formed c = form_formed (expr_list (exprs_in c.as_slice.res
 pub returns-in-Some-Let-clause-answers : goal.returns-in-Some-Let-clause-answers
 returns-in-Some-Let-clause-answers c held just =
     let s = left_by (heap c.args.cx.now) (scope_names c.args.scope.now) held in
-    let form : form_of c.args.line.now ≡ Some (Let c.in-Some-Let.name (phrase_seen c.in-Some-Let.phrase)) =
-    form_is c.args.line.now c.as_slice.result.now (Let c.in-Some-Let.name (phrase_seen c.in-Some-Let.phrase))
+    let form : form_of c.args.line.now ≡ Some (Let c.in-Some-Let.name.now (phrase_seen c.in-Some-Let.phrase)) =
+    form_is c.args.line.now c.as_slice.result.now (Let c.in-Some-Let.name.now (phrase_seen c.in-Some-Let.phrase))
     (sym c.in_ok-items.ensures.read ∙ ap (option_map (λ es. exprs_in (items_of es))) c.in-Some.is ∙ ap (λ es. Some (exprs_in es)) (sym c.as_slice.ensures))
     (sym c.in_ok-form_of_items.ensures.read ∙ ap (option_map form_seen) (c.in-Some-Let.is ∙ ap Some c.in-Some-Let.field-0-is))
     in

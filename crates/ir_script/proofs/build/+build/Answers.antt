@@ -9,10 +9,10 @@ use Rattle.ir_laws.specs.Environment.{field_meant}
 use Rattle.ir_laws.specs.Counts.{sort_of_label}
 use Rattle.ir_laws.specs.Heap.{Each, Layer}
 use Rattle.ir_laws.specs.Phrase.{each_of}
-use Rattle.ir_table.specs.Fits.{part_sort, term_sort}
+use Rattle.ir_nodes.specs.Fits.{part_sort, term_sort}
 use Rattle.ir_table.specs.Interner.{heap, state}
 use Rattle.ir_script.specs.Scope.{env_of, scope_names}
-use Rattle.ir_table.specs.Nodes as table
+use Rattle.ir_nodes.specs.Nodes as table
 use Rattle.ir_table.proofs.CallerLemmas.{live_sort}
 use Rattle.ir_script.specs.declared.phrases.Phrase.{the_lemmas}
 use Rattle.ir_script.specs.Built.{AllSuit, Builds, BuildsAll}
@@ -156,7 +156,7 @@ build_all-returns t c = all_built _ _ c.requires.terms _ _ _ _ _ c.loop-kid-test
 -- ---- a name
 
 pub build-unwrap-requires : goal.build-unwrap-requires
-build-unwrap-requires t c = ap is_some c.find.ensures ∙ name_found _ _ _ _ c.in-Name.is c.as_bytes.ensures c.requires.buildable
+build-unwrap-requires t c = ap is_some c.find.ensures ∙ name_found _ _ _ c.in-Name.is c.requires.buildable
 
 pub build-returns-in-Name : goal.build-returns-in-Name
-build-returns-in-Name t c = name_built _ _ _ _ _ _ c.args.cx.now.store.sound c.requires.terms c.in-Name.is c.as_bytes.ensures (sym c.find.ensures ∙ c.unwrap.ensures)
+build-returns-in-Name t c = name_built _ _ _ _ _ c.args.cx.now.store.sound c.requires.terms c.in-Name.is (sym c.find.ensures ∙ c.unwrap.ensures)

@@ -2,7 +2,7 @@ use Rattle.std.proofs.Common.{Some, Err, map, refl, sym, ap, ◌∙◌}
 use Rattle.std.proofs.lemmas.Result.{err_from_is_err_and}
 use Rattle.ir_laws.specs.Environment.{kind_in}
 use Rattle.ir_laws.specs.Phrase.{each_of}
-use Rattle.ir_table.specs.Nodes.{variable_seen}
+use Rattle.ir_nodes.specs.Nodes.{variable_seen}
 use Rattle.ir_script.specs.Causes.{no_names}
 use Rattle.ir_script.specs.Makeable.{is_nameless_bind}
 use Rattle.ir_script.specs.Phrases.{bind_seen, kind_seen}

@@ -1,5 +1,5 @@
 use Rattle.std.proofs.Common.{◌≡◌, map, take}
-use Rattle.ir_table.specs.Nodes as table
+use Rattle.ir_nodes.specs.Nodes as table
 use Rattle.ir_script.proofs.BuildLemmas.{kept}
 use Rattle.ir_script.proofs.build.fields_of.Given as goal
 

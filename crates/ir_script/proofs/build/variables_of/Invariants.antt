@@ -1,5 +1,5 @@
 use Rattle.std.proofs.Common.{◌≡◌, map, take}
-use Rattle.ir_table.specs.Nodes.{variable_seen}
+use Rattle.ir_nodes.specs.Nodes.{variable_seen}
 use Rattle.ir_script.proofs.BuildLemmas.{kind_kept}
 use Rattle.ir_script.proofs.build.variables_of.Given as goal
 

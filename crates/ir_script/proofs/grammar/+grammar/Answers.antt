@@ -1,5 +1,6 @@
 use Rattle.std.proofs.Common.{◌≡◌, ◌<◌, ◌≤◌, ◌∙◌, arith, rules, refl, ap, sym, subst, true, length, List, [], ◌∷◌, ◌++◌, Option, Some, None, option_map, IfOk, Vec, Global}
 use denote.Param.Weighed.{most}
+use denote.Ref.{NamedLft}
 use Rattle.ir_laws.specs.declared.labels.Part.{Part}
 use Rattle.ir_laws.specs.Label.{row}
 use Rattle.ir_laws.specs.Phrase.{Phrase, fit, labelled, phrase_of}
@@ -12,7 +13,7 @@ use Rattle.ir_script.specs.Views.{exprs_in}
 use Rattle.ir_script.proofs.PhraseLemmas.{group_is, list_read, fieldless, fit-unequal, all-fitted, all-labelled, all-phrases, after-fixed, after-field, no_field, after-kid, after-phrase, written_built, by_word, begun_is, empty_group, group_first, same-prefix, after-group, field_built, group_leads, most-rest}
 use Rattle.ir_script.proofs.expression.Expr.TheLaws.{the_size}
 use Rattle.ir_script.proofs.grammar.+grammar.Goals as goal
-use Rattle.ir_script.proofs.grammar.+grammar.Goals.{labelled-in-Fixed, labelled-in-ForGroup+in_ok-kinds-in-ForGroup+in-Some, labelled-in-AField+in_ok-field-in-AField+in-Some-2+in_ok-push-in-Some-2, labelled-in-AKid+in_ok-kid-in-AKid+in-Some-3+in_ok-push-in-Some-3}
+use Rattle.ir_script.proofs.grammar.+grammar.Goals.{labelled-in-Fixed, labelled-in-ForGroup+in_ok-kinds-in-ForGroup+in-Some, labelled-in-AField+in-Some-field_in+in_ok-push-in-Some-field_in, labelled-in-AKid+in_ok-kid-in-AKid+in-Some-2+in_ok-push-in-Some-2}
 
 abbrev field_items : Vec Field Global → List Field
 field_items v = v.items
@@ -43,16 +44,16 @@ phrase_of_expr-returns-in_default-first-clause-read t c =
 
 pub phrase_of_expr-labelled-requires : goal.phrase_of_expr-labelled-requires
 phrase_of_expr-labelled-requires t c =
-    let smaller : most the_size c.in-Some.rest.now ≤ most the_size c.as_slice-group.result.now = most-rest the_size _ _ _ c.in-Some.ensures.cases.0 in
-    (search (rules, the_lemmas), written_built c.as_bytes-2.result.now (exprs_in c.in-Some.rest.now) c.in-Some-written_word.word (sym c.in-Some-written_word.is ∙ c.written_word.ensures))
+    let smaller : (r : NamedLft) → most (the_size r) c.in-Some.rest.now ≤ most (the_size r) c.as_slice-group.result.now = λ r. most-rest (the_size r) _ _ _ c.in-Some.ensures.cases.0 in
+    (search (rules, the_lemmas), written_built c.in-Word-first.text.now (exprs_in c.in-Some.rest.now) c.in-Some-written_word.word (sym c.in-Some-written_word.is ∙ c.written_word.ensures))
 
 pub phrase_of_expr-returns-in-Some-written_word-clause-read : goal.phrase_of_expr-returns-in-Some-written_word-clause-read
 phrase_of_expr-returns-in-Some-written_word-clause-read t c =
-    subst (λ (p : Option Phrase). IfOk c.labelled.result (λ o. option_map phrase_seen o ≡ p)) (by_word c.as_bytes-2.result.now _ (Some c.in-Some-written_word.word) _ (sym c.in-Some-written_word.is ∙ c.written_word.ensures) (begun_is _ _ _ _ _ _ _ c.in-Group.is c.as_slice-group.ensures c.in-Some.ensures.cases.0 c.in-Word-first.is c.as_bytes-2.ensures)) c.labelled.ensures.read
+    subst (λ (p : Option Phrase). IfOk c.labelled.result (λ o. option_map phrase_seen o ≡ p)) (by_word c.in-Word-first.text.now _ (Some c.in-Some-written_word.word) _ (sym c.in-Some-written_word.is ∙ c.written_word.ensures) (begun_is _ _ _ _ _ _ c.in-Group.is c.as_slice-group.ensures c.in-Some.ensures.cases.0 c.in-Word-first.is)) c.labelled.ensures.read
 
 pub phrase_of_expr-returns-in-None-clause-read : goal.phrase_of_expr-returns-in-None-clause-read
 phrase_of_expr-returns-in-None-clause-read t c =
-    by_word c.as_bytes-2.result.now (exprs_in c.in-Some.rest.now) None _ (sym c.in-None.is ∙ c.written_word.ensures) (begun_is _ _ _ _ _ _ _ c.in-Group.is c.as_slice-group.ensures c.in-Some.ensures.cases.0 c.in-Word-first.is c.as_bytes-2.ensures)
+    by_word c.in-Word-first.text.now (exprs_in c.in-Some.rest.now) None _ (sym c.in-None.is ∙ c.written_word.ensures) (begun_is _ _ _ _ _ _ c.in-Group.is c.as_slice-group.ensures c.in-Some.ensures.cases.0 c.in-Word-first.is)
 
 pub labelled-loop-index-preserved : goal.labelled-loop-index-preserved
 labelled-loop-index-preserved t c =
@@ -62,26 +63,26 @@ labelled-loop-index-preserved t c =
       read = elim c.match-part.branch [
         | labelled-in-Fixed w ↦
             same-prefix c.loop-index.fields.items c.match-part.fields.items c.loop-index.bind c.match-part.bind c.loop-index.kids.items c.match-part.kids.items _ _ (ap field_items w.fields-is) w.bind-is (ap kid_items w.kids-is)
-            (after-fixed c.args.items.now c.parts-parts.result.now c.loop-index.index _ _ _ _ _ _ (record { in_items = in_items; in_parts = c.loop-index-test.true; spare_item = code.Word []; spare_part = _; item_is = refl; part_is = w.in-Fixed.is }) c.loop-index.invariant.read)
+            (after-fixed c.args.items.now c.parts-parts.result.now c.loop-index.index _ _ _ _ _ _ (record { in_items = in_items; in_parts = c.loop-index-test.true; spare_item = code.Word (record { ref_ptr = (0, 0); now = [] }); spare_part = _; item_is = refl; part_is = w.in-Fixed.is }) c.loop-index.invariant.read)
         | labelled-in-ForGroup+in_ok-kinds-in-ForGroup+in-Some w ↦
             same-prefix c.loop-index.fields.items c.match-part.fields.items (Some w.in-Some.kinds) c.match-part.bind c.loop-index.kids.items c.match-part.kids.items _ _ (ap field_items w.fields-is) w.bind-is (ap kid_items w.kids-is)
             (after-group c.args.items.now c.parts-parts.result.now c.loop-index.index _ _ _ w.in-Some.kinds _ _ (record { in_items = in_items; in_parts = c.loop-index-test.true; spare_item = _; spare_part = _; item_is = sym w.index-items-index.is; part_is = w.in-ForGroup.is }) (c.loop-index.invariant.free (group_leads _ _ _ built c.loop-index-test.true w.in-ForGroup.is)) (ap bind_seen (sym w.in-Some.is) ∙ w.in_ok-kinds-in-ForGroup.ensures.read) c.loop-index.invariant.read)
-        | labelled-in-AField+in_ok-field-in-AField+in-Some-2+in_ok-push-in-Some-2 w ↦
-            same-prefix (c.loop-index.fields.items ++ w.in-Some-2.field ∷ []) c.match-part.fields.items c.loop-index.bind c.match-part.bind c.loop-index.kids.items c.match-part.kids.items _ _ (ap field_items w.fields-is ∙ w.in_ok-push-in-Some-2.ensures.items) w.bind-is (ap kid_items w.kids-is)
-            (after-field c.args.items.now c.parts-parts.result.now c.loop-index.index w.index-items-index-in-AField.result w.in-AField.form c.loop-index.fields.items w.in-Some-2.field _ c.loop-index.kids.items _ (record { in_items = in_items; in_parts = c.loop-index-test.true; spare_item = _; spare_part = _; item_is = sym w.index-items-index-in-AField.is; part_is = w.in-AField.is }) (field_built _ _ _ _ built c.loop-index-test.true w.in-AField.is) (ap (option_map field_seen) (sym w.in-Some-2.is) ∙ w.in_ok-field-in-AField.ensures.read) c.loop-index.invariant.read)
-        | labelled-in-AKid+in_ok-kid-in-AKid+in-Some-3+in_ok-push-in-Some-3 w ↦
-            same-prefix c.loop-index.fields.items c.match-part.fields.items c.loop-index.bind c.match-part.bind (c.loop-index.kids.items ++ w.in-Some-3.kid ∷ []) c.match-part.kids.items _ _ (ap field_items w.fields-is) w.bind-is (ap kid_items w.kids-is ∙ w.in_ok-push-in-Some-3.ensures.items)
-            (after-kid c.args.items.now c.parts-parts.result.now c.loop-index.index w.index-items-index-in-AKid.result w.in-AKid.form c.loop-index.fields.items _ c.loop-index.kids.items w.in-Some-3.kid _ (record { in_items = in_items; in_parts = c.loop-index-test.true; spare_item = _; spare_part = _; item_is = sym w.index-items-index-in-AKid.is; part_is = w.in-AKid.is }) (ap (option_map phrase_seen) (sym w.in-Some-3.is) ∙ w.in_ok-kid-in-AKid.ensures.read) c.loop-index.invariant.read)
+        | labelled-in-AField+in-Some-field_in+in_ok-push-in-Some-field_in w ↦
+            same-prefix (c.loop-index.fields.items ++ w.in-Some-field_in.field ∷ []) c.match-part.fields.items c.loop-index.bind c.match-part.bind c.loop-index.kids.items c.match-part.kids.items _ _ (ap field_items w.fields-is ∙ w.in_ok-push-in-Some-field_in.ensures.items) w.bind-is (ap kid_items w.kids-is)
+            (after-field c.args.items.now c.parts-parts.result.now c.loop-index.index w.index-items-index-in-AField.result w.in-AField.form c.loop-index.fields.items w.in-Some-field_in.field _ c.loop-index.kids.items _ (record { in_items = in_items; in_parts = c.loop-index-test.true; spare_item = _; spare_part = _; item_is = sym w.index-items-index-in-AField.is; part_is = w.in-AField.is }) (field_built _ _ _ _ built c.loop-index-test.true w.in-AField.is) (ap (option_map field_seen) (sym w.in-Some-field_in.is) ∙ w.field_in.ensures) c.loop-index.invariant.read)
+        | labelled-in-AKid+in_ok-kid-in-AKid+in-Some-2+in_ok-push-in-Some-2 w ↦
+            same-prefix c.loop-index.fields.items c.match-part.fields.items c.loop-index.bind c.match-part.bind (c.loop-index.kids.items ++ w.in-Some-2.kid ∷ []) c.match-part.kids.items _ _ (ap field_items w.fields-is) w.bind-is (ap kid_items w.kids-is ∙ w.in_ok-push-in-Some-2.ensures.items)
+            (after-kid c.args.items.now c.parts-parts.result.now c.loop-index.index w.index-items-index-in-AKid.result w.in-AKid.form c.loop-index.fields.items _ c.loop-index.kids.items w.in-Some-2.kid _ (record { in_items = in_items; in_parts = c.loop-index-test.true; spare_item = _; spare_part = _; item_is = sym w.index-items-index-in-AKid.is; part_is = w.in-AKid.is }) (ap (option_map phrase_seen) (sym w.in-Some-2.is) ∙ w.in_ok-kid-in-AKid.ensures.read) c.loop-index.invariant.read)
       ];
       free = λ none. absurd (omega (arith, none));
     }
 
-pub labelled-returns-in-None-2-clause-read : goal.labelled-returns-in-None-2-clause-read
-labelled-returns-in-None-2-clause-read t c =
+pub labelled-returns-in-None-field_in-clause-read : goal.labelled-returns-in-None-field_in-clause-read
+labelled-returns-in-None-field_in-clause-read t c =
     let built : are_built c.parts-parts.result.now ≡ true = ap are_built c.parts-parts.ensures ∙ c.requires in
     let in_items : c.loop-index.index < length c.args.items.now = omega arith in
     sym (ap (λ (parts : List Part). labelled c.args.word (fit (exprs_in c.args.items.now) parts)) (sym c.parts-parts.ensures)
-    ∙ ap (labelled c.args.word) (no_field c.args.items.now c.parts-parts.result.now c.loop-index.index c.index-items-index-in-AField.result c.in-AField.form _ _ _ _ (record { in_items = in_items; in_parts = c.loop-index-test.true; spare_item = _; spare_part = _; item_is = sym c.index-items-index-in-AField.is; part_is = c.in-AField.is }) (field_built _ _ _ _ built c.loop-index-test.true c.in-AField.is) (ap (option_map field_seen) (sym c.in-None-2.is) ∙ c.in_ok-field-in-AField.ensures.read) c.loop-index.invariant.read))
+    ∙ ap (labelled c.args.word) (no_field c.args.items.now c.parts-parts.result.now c.loop-index.index c.index-items-index-in-AField.result c.in-AField.form _ _ _ _ (record { in_items = in_items; in_parts = c.loop-index-test.true; spare_item = _; spare_part = _; item_is = sym c.index-items-index-in-AField.is; part_is = c.in-AField.is }) (field_built _ _ _ _ built c.loop-index-test.true c.in-AField.is) (ap (option_map field_seen) (sym c.in-None-field_in.is) ∙ c.field_in.ensures) c.loop-index.invariant.read))
 
 pub labelled-returns-clause-read : goal.labelled-returns-clause-read
 labelled-returns-clause-read t c =

@@ -42,8 +42,8 @@ unknown_name-returns-else-unknown_in_bind-clause-known t c = λ h no.
 
 pub unknown_name-returns-in-Name-clause-unknown : goal.unknown_name-returns-in-Name-clause-unknown
 unknown_name-returns-in-Name-clause-unknown t c = λ h yes.
-    ap (λ cs. is_cause_among cs Unknown) (code_name h _ _ _ _ _ c.in-Name.is c.as_bytes.ensures c.find.ensures ∙ ap (λ b. unless b Unknown) (c.is_none.ensures ∙ ap not yes))
+    ap (λ cs. is_cause_among cs Unknown) (code_name h _ _ _ _ c.in-Name.is c.find.ensures ∙ ap (λ b. unless b Unknown) (c.is_none.ensures ∙ ap not yes))
 
 pub unknown_name-returns-in-Name-clause-known : goal.unknown_name-returns-in-Name-clause-known
 unknown_name-returns-in-Name-clause-known t c = λ h no.
-    code_name h _ _ _ _ _ c.in-Name.is c.as_bytes.ensures c.find.ensures ∙ ap (λ b. unless b Unknown) (c.is_none.ensures ∙ ap not no)
+    code_name h _ _ _ _ c.in-Name.is c.find.ensures ∙ ap (λ b. unless b Unknown) (c.is_none.ensures ∙ ap not no)

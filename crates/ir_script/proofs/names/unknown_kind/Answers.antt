@@ -8,5 +8,5 @@ use Rattle.ir_script.proofs.names.unknown_kind.Goals as goal
 
 pub returns-in-Some : goal.returns-in-Some
 returns-in-Some c = λ h.
-    kind_called h (scope_names c.args.scope.now) (kind_seen c.args.kind.now) c.in-Some.name.now c.as_bytes.result.now c.find.result c.in-Some.ensures c.as_bytes.ensures c.find.ensures
+    kind_called h (scope_names c.args.scope.now) (kind_seen c.args.kind.now) c.in-Some.name.now c.find.result c.in-Some.ensures c.find.ensures
     ∙ ap (λ b. unless b Unknown) c.is_none.ensures

@@ -56,12 +56,12 @@ misfit_in-returns-in-None t c = λ h terms.
 -- ---- a name
 
 pub misfit_in-returns-in_default : goal.misfit_in-returns-in_default
-misfit_in-returns-in_default t c = λ h terms. name_none h _ terms _ _ _ c.in-Name.is c.as_bytes.ensures _ (sym c.in_default.is ∙ c.sort_of.ensures)
+misfit_in-returns-in_default t c = λ h terms. name_none h _ terms _ _ c.in-Name.is _ (sym c.in_default.is ∙ c.sort_of.ensures)
 
 pub misfit_in-returns-then-suits : goal.misfit_in-returns-then-suits
 misfit_in-returns-then-suits t c = λ h terms.
-    name_suits h _ terms _ _ _ c.in-Name.is c.as_bytes.ensures _ _ _ (sym c.in-Some.is ∙ c.sort_of.ensures) c.suits.ensures ∙ ap (λ b. unless b WrongSort) c.if-suits.true
+    name_suits h _ terms _ _ c.in-Name.is _ _ _ (sym c.in-Some.is ∙ c.sort_of.ensures) c.suits.ensures ∙ ap (λ b. unless b WrongSort) c.if-suits.true
 
 pub misfit_in-returns-else-suits : goal.misfit_in-returns-else-suits
 misfit_in-returns-else-suits t c = λ h terms.
-    name_wrong h _ terms _ _ _ c.in-Name.is c.as_bytes.ensures _ _ _ (sym c.in-Some.is ∙ c.sort_of.ensures) c.suits.ensures c.if-suits.false
+    name_wrong h _ terms _ _ c.in-Name.is _ _ _ (sym c.in-Some.is ∙ c.sort_of.ensures) c.suits.ensures c.if-suits.false

@@ -4,4 +4,4 @@ use Rattle.ir_script.proofs.VariableLemmas.{next_kind}
 use Rattle.ir_script.proofs.variables.kinds_of.Goals as goal
 
 pub loop-item-preserved : goal.loop-item-preserved
-loop-item-preserved c = next_kind _ _ _ c.loop-item-test.true c.item-item.is _ _ c.loop-item.invariant _ _ c.in-Word.is c.as_bytes.ensures c.in-Some.kind _ (ap (option_map kind_seen) (sym c.in-Some.is) ∙ c.in_ok-kind.ensures.read) c.in_ok-push-in-Some.ensures.items
+loop-item-preserved c = next_kind _ _ _ c.loop-item-test.true c.item-item.is _ _ c.loop-item.invariant _ c.in-Word.is c.in-Some.kind _ (ap (option_map kind_seen) (sym c.in-Some.is) ∙ c.kind_of.ensures) c.in_ok-push-in-Some.ensures.items

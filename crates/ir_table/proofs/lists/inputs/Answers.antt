@@ -3,7 +3,7 @@ use Rattle.ir_table.proofs.LastLemmas.{some_types, front_then_last}
 use Rattle.ir_table.proofs.lists.inputs.Goals as goal
 
 pub slice_bounds-result-count : goal.slice_bounds-result-count
-slice_bounds-result-count c = let some = some_types c.args.cx.now c.args.tys c.requires.some c.as_slice-all.result.now c.as_slice-all.ensures in omega arith
+slice_bounds-result-count c = omega (arith, some_types c.args.cx.now c.args.tys c.requires.some c.as_slice-all.result.now c.as_slice-all.ensures)
 
 pub returns : goal.returns
 returns c =

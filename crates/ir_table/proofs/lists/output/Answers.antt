@@ -3,10 +3,10 @@ use Rattle.ir_table.proofs.LastLemmas.{some_types, front_then_last}
 use Rattle.ir_table.proofs.lists.output.Goals as goal
 
 pub overflow_sub-result : goal.overflow_sub-result
-overflow_sub-result c = let some = some_types c.args.cx.now c.args.tys c.requires.some c.as_slice-all.result.now c.as_slice-all.ensures in omega arith
+overflow_sub-result c = omega (arith, some_types c.args.cx.now c.args.tys c.requires.some c.as_slice-all.result.now c.as_slice-all.ensures)
 
 pub bounds-all-all : goal.bounds-all-all
-bounds-all-all c = let some = some_types c.args.cx.now c.args.tys c.requires.some c.as_slice-all.result.now c.as_slice-all.ensures in omega arith
+bounds-all-all c = omega (arith, some_types c.args.cx.now c.args.tys c.requires.some c.as_slice-all.result.now c.as_slice-all.ensures)
 
 pub returns : goal.returns
 returns c =

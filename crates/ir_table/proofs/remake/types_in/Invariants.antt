@@ -1,7 +1,7 @@
 use Rattle.std.proofs.Common.{◌≡◌, ◌++◌, true, drop, length}
 use Rattle.smallvec.specs.SmallVec.{HasRoomFor}
-use Rattle.ir_table.specs.Fits.{are_types}
-use Rattle.ir_table.specs.Nodes.{tys_kids}
+use Rattle.ir_nodes.specs.Fits.{are_types}
+use Rattle.ir_nodes.specs.Nodes.{tys_kids}
 use Rattle.ir_table.proofs.remake.types_in.Given as goal
 
 abbrev pub invariant-loop-part : goal.invariant-loop-part

@@ -2,8 +2,8 @@ use Rattle.std.proofs.Common.{◌≡◌, ◌++◌, ◌+◌, ◌*◌, ◌≤◌, 
 use Rattle.ir_laws.specs.Heap.{largest, cached_height, shape_over}
 use Rattle.ir_laws.specs.Spelling.{bind_texts, field_text, part_texts}
 use Rattle.ir_table.specs.Interner.{heap}
-use Rattle.ir_table.specs.Layers.{list_kids}
-use Rattle.ir_table.specs.Nodes.{field_seen, fields_in, kids_in, node_layer}
+use Rattle.ir_nodes.specs.Layers.{list_kids}
+use Rattle.ir_nodes.specs.Nodes.{field_seen, fields_in, kids_in, node_layer}
 use Rattle.ir_table.specs.Spelled.{Begins, after, after_each, kid_texts, list_text, name_text, places_text}
 use Rattle.ir_table.proofs.spelling.+spelling.Given as goal
 

@@ -1,6 +1,6 @@
 use Rattle.std.proofs.Common.{◌≡◌, ◌++◌, drop, map, codes}
 use Rattle.ir_laws.specs.Spelling.{bind_text, kind_text}
-use Rattle.ir_table.specs.Nodes.{variable_seen}
+use Rattle.ir_nodes.specs.Nodes.{variable_seen}
 use Rattle.ir_table.specs.Spelled.{Begins, after_each, name_text}
 use Rattle.ir_table.proofs.spelling.spell_variables.Given as goal
 

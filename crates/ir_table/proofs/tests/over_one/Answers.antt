@@ -5,7 +5,7 @@ use Rattle.ir_core.specs.Parts.{same_part_sort, sort_in}
 use Rattle.ir_core.specs.contracts.handles.PartSort.{the_type}
 use Rattle.ir_core.specs.declared.handles.Part.{Part}
 use Rattle.ir_laws.specs.Heap.{kid_names}
-use Rattle.ir_table.specs.Layers.{kid_sorts, layer_seen}
+use Rattle.ir_nodes.specs.Layers.{kid_sorts, layer_seen}
 use Rattle.ir_table.proofs.tests.over_one.Goals as goal
 
 not_back : (b : Bool) → false ≡ not b → b ≡ true

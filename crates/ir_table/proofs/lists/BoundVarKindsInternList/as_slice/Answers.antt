@@ -1,14 +1,12 @@
-use Rattle.std.proofs.Common.{subst, sym, refl}
+use Rattle.std.proofs.Common.{refl}
 use Rattle.ir_core.specs.declared.handles.Part.TheVariants as part
-use Rattle.ir_laws.specs.Heap.{HasNode}
-use Rattle.ir_table.specs.Interner.{heap}
-use Rattle.ir_table.specs.Nodes.{variables_layer}
+use Rattle.ir_core.specs.declared.handles.PartSort.TheVariants as sort
+use Rattle.ir_nodes.specs.Nodes.{variables_layer}
 use Rattle.ir_table.proofs.PartLemmas.{entry_node, entry_within}
 use Rattle.ir_table.proofs.lists.BoundVarKindsInternList.as_slice.Goals as goal
 
 pub key-requires : goal.key-requires
-key-requires c = entry_within c.args.cx.now.store.tables (part.BoundVarKinds c.args.self) c.requires _ _ refl refl
+key-requires c = entry_within c.args.cx.now.store.tables (part.BoundVarKinds c.args.self) sort.BoundVarKinds _ refl c.requires _ refl
 
 pub returns : goal.returns
-returns c = subst (λ xs. HasNode (heap c.args.cx.now) (part.BoundVarKinds c.args.self) (variables_layer xs)) (sym c.as_slice.ensures)
-    (entry_node c.args.cx.now.store.tables (part.BoundVarKinds c.args.self) c.requires _ _ refl refl c.args.cx.now.store.sound (variables_layer c.key.result.now.items) c.key.ensures)
+returns c = rw c.as_slice.ensures (entry_node c.args.cx.now.store.tables (part.BoundVarKinds c.args.self) sort.BoundVarKinds _ refl c.requires _ refl (variables_layer c.key.result.now.items) c.key.ensures c.args.cx.now.store.sound)

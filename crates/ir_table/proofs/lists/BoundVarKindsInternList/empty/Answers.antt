@@ -1,4 +1,4 @@
-use Rattle.ir_table.proofs.EmptyLemmas.{no_variables}
+use Rattle.ir_table.proofs.StartLemmas.{no_variables}
 use Rattle.ir_table.proofs.lists.BoundVarKindsInternList.empty.Goals as goal
 
 pub returns : goal.returns

@@ -1,4 +1,4 @@
-use Rattle.ir_table.proofs.EmptyLemmas.{no_types}
+use Rattle.ir_table.proofs.StartLemmas.{no_types}
 use Rattle.ir_table.proofs.lists.TysInternList.empty.Goals as goal
 
 pub returns : goal.returns

@@ -1,4 +1,4 @@
-use Rattle.ir_table.proofs.EmptyLemmas.{no_variances}
+use Rattle.ir_table.proofs.StartLemmas.{no_variances}
 use Rattle.ir_table.proofs.lists.VariancesOfInternList.empty.Goals as goal
 
 pub returns : goal.returns

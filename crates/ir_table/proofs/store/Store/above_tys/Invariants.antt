@@ -3,7 +3,7 @@ use Rattle.ir_laws.specs.Heap.{Each, IsLive, size_cap}
 use Rattle.ir_table.specs.declared.above.Above.{Above}
 use Rattle.ir_table.specs.Above.{WithKids}
 use Rattle.ir_table.specs.Heaps.{heap_of}
-use Rattle.ir_table.specs.Nodes.{tys_kids}
+use Rattle.ir_nodes.specs.Nodes.{tys_kids}
 use Rattle.ir_table.proofs.store.Store.above_tys.Given as goal
 
 abbrev pub invariant-loop-ty : goal.invariant-loop-ty

@@ -1,5 +1,4 @@
-use Rattle.std.proofs.Common.{refl, subst, sym}
-use Rattle.ir_table.specs.Above.{KeptAt}
+use Rattle.std.proofs.Common.{refl}
 use Rattle.ir_table.proofs.PartLemmas.{entry_at, entry_some}
 use Rattle.ir_table.proofs.store.Store.cached.Goals as goal
 
@@ -9,4 +8,4 @@ unwrap-requires c = entry_some _ c.args.self.now.tables c.args.part c.entry.resu
 pub returns : goal.returns
 returns c =
     let at = entry_at _ c.args.self.now.tables c.args.part c.entry.result c.entry.ensures.entry c.unwrap.result c.unwrap.ensures c.requires in
-    subst (λ o. KeptAt o c.unwrap.result.1) (sym at.0) (record { height = refl; size = refl; flags = refl; outer = refl })
+    rw at.0 (record { height = refl; size = refl; flags = refl; outer = refl })

@@ -1,6 +1,6 @@
-use Rattle.std.proofs.Common.{◌∙◌, IsSome, ap, subst, sym, true≢false}
-use Rattle.ir_table.specs.Fits.{is_of, layer_sort}
-use Rattle.ir_table.specs.Layers.{layer_seen}
+use Rattle.std.proofs.Common.{◌∙◌, ap}
+use Rattle.ir_nodes.specs.Fits.{is_of, layer_sort}
+use Rattle.ir_nodes.specs.Layers.{layer_seen}
 use Rattle.ir_table.proofs.PartLemmas.{entry_live, entry_some}
 use Rattle.ir_table.proofs.store.Store.holds.Goals as goal
 
@@ -12,5 +12,5 @@ returns-in-Some c =
 pub returns-in-None : goal.returns-in-None
 returns-in-None c = (
   λ e. absurd (cc e),
-  λ live. absurd (true≢false (sym (subst IsSome c.in-None.is (entry_some _ c.args.self.now.tables c.args.part c.entry.result c.entry.ensures.entry live)))),
+  λ live. absurd (cc (rw c.in-None.is at (entry_some _ c.args.self.now.tables c.args.part c.entry.result c.entry.ensures.entry live))),
 )

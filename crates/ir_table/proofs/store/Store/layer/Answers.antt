@@ -1,15 +1,15 @@
-use Rattle.std.proofs.Common.{◌≡◌, ◌∙◌, IfSome, Some, ap, subst, sym, true}
+use Rattle.std.proofs.Common.{◌≡◌, ◌∙◌, Some, ap, sym, true}
 use Rattle.std.specs.Option.{option_map}
 use Rattle.ir_core.specs.declared.handles.PartSort.{PartSort}
 use Rattle.ir_core.specs.Parts.{sort_in}
 use Rattle.ir_laws.proofs.HeapLemmas.{has_node}
-use Rattle.ir_table.specs.declared.layers.Layer.{Layer as LayerRead}
-use Rattle.ir_table.specs.declared.layers.Layer.TheVariants as layer
-use Rattle.ir_table.specs.Fits.{is_term, layer_fits, layer_sort}
+use Rattle.ir_nodes.specs.declared.layers.Layer.{Layer as LayerRead}
+use Rattle.ir_nodes.specs.declared.layers.Layer.TheVariants as layer
+use Rattle.ir_nodes.specs.Fits.{is_term, layer_fits, layer_sort}
 use Rattle.ir_table.specs.Heaps.{heap_of}
-use Rattle.ir_table.specs.Layers.{FitsRow, is_node, layer_seen}
-use Rattle.ir_table.specs.Nodes.{node_layer}
-use Rattle.ir_table.proofs.HandleLemmas.{fits_term}
+use Rattle.ir_nodes.specs.Layers.{FitsRow, is_node, layer_seen}
+use Rattle.ir_nodes.specs.Nodes.{node_layer}
+use Rattle.ir_nodes.proofs.FitLemmas.{fits_term}
 use Rattle.ir_table.proofs.PartLemmas.{entry_at, entry_some}
 use Rattle.ir_table.proofs.store.Store.layer.Goals as goal
 
@@ -34,5 +34,5 @@ pub returns-clause-row : goal.returns-clause-row
 returns-clause-row c =
     let at = entry_at _ c.args.self.now.tables c.args.part c.entry.result c.entry.ensures.entry c.unwrap.result c.unwrap.ensures c.requires in
     row_of (sort_in c.args.part) c.unwrap.result.0 at.1
-    (subst (λ o. IfSome o (λ e. is_node e.0 ≡ is_term (Some (sort_in c.args.part)))) c.unwrap.ensures c.entry.ensures.node)
+    (rw c.unwrap.ensures at c.entry.ensures.node)
     (c.args.self.now.fits c.args.part _ at.0)

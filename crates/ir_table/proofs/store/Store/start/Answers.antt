@@ -2,7 +2,7 @@ use Rattle.std.proofs.Common.{◌++◌, take, drop, refl, sym, subst, arith}
 use Rattle.ir_laws.specs.Heap.{Each}
 use Rattle.ir_table.specs.Heaps.{heap_of}
 use Rattle.ir_table.specs.Start.{Names, leaves, name_leaves, named_compounds}
-use Rattle.ir_table.proofs.StartLemmas.{after, refused_by, made, Each-append, Each-drop, Each-take, leaf_at, names_each_later}
+use Rattle.ir_table.proofs.StartLemmas.{after, refused_by, made, Each-append, Each-split, leaf_at, names_each_later}
 use Rattle.ir_table.proofs.store.Store.start.Goals as goal
 
 pub returns-in_err-indices-clause-makes : goal.returns-in_err-indices-clause-makes
@@ -28,6 +28,6 @@ returns-clause-names c =
     let h = heap_of c.start_compounds.new.self.tables in
     let first = name_leaves c.in_ok-indices.indices leaves in
     let compounds = named_compounds c.in_ok-compounds.compounds.unit c.in_ok-compounds.compounds.static_str_ref c.in_ok-compounds.compounds.mut_unit_ptr in
-    let all = names_each_later c.in_ok-compounds.ensures.makes.grows first c.in_ok-indices.ensures.names in
+    let leaves_named = Each-split (Names h) 21 first (names_each_later c.in_ok-compounds.ensures.makes.grows first c.in_ok-indices.ensures.names) in
     subst (Each (Names h)) (sym c.default_any.ensures)
-    (Each-append (Names h) (take 21 first ++ compounds) (drop 21 first) (Each-append (Names h) (take 21 first) compounds (Each-take (Names h) 21 first all) c.in_ok-compounds.ensures.names) (Each-drop (Names h) 21 first all))
+    (Each-append (Names h) (take 21 first ++ compounds) (drop 21 first) (Each-append (Names h) (take 21 first) compounds leaves_named.0 c.in_ok-compounds.ensures.names) leaves_named.1)

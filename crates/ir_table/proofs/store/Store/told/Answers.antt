@@ -5,9 +5,11 @@ use Rattle.ir_table.proofs.store.Store.told.Goals as goal
 
 pub returns : goal.returns
 returns c =
+    let h = heap_of c.args.self.now.tables in
+    let sound = c.args.self.now.sound in
     let kept = c.cached.ensures in record {
-      height = kept.height ∙ sym (height-tree_of (heap_of c.args.self.now.tables) c.args.self.now.sound c.args.part c.requires);
-      size = kept.size ∙ cached_size-tree_of (heap_of c.args.self.now.tables) c.args.self.now.sound c.args.part c.requires;
-      flags = kept.flags ∙ cached_flags-tree_of (heap_of c.args.self.now.tables) c.args.self.now.sound c.args.part c.requires;
-      outer = kept.outer ∙ cached_outer-tree_of (heap_of c.args.self.now.tables) c.args.self.now.sound c.args.part c.requires;
+      height = kept.height ∙ sym (height-tree_of h sound c.args.part c.requires);
+      size = kept.size ∙ cached_size-tree_of h sound c.args.part c.requires;
+      flags = kept.flags ∙ cached_flags-tree_of h sound c.args.part c.requires;
+      outer = kept.outer ∙ cached_outer-tree_of h sound c.args.part c.requires;
     }

@@ -1,4 +1,4 @@
-use Rattle.ir_table.proofs.HandleLemmas.{variances_fit}
+use Rattle.ir_nodes.proofs.FitLemmas.{variances_fit}
 use Rattle.ir_table.proofs.store.Store.variances.Goals as goal
 
 pub make_list-requires-clause-fits : goal.make_list-requires-clause-fits

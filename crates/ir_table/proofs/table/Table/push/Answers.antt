@@ -1,6 +1,6 @@
 use Rattle.std.proofs.Common.{ap, ◌∙◌, [], ◌∷◌, ◌++◌}
 use Rattle.std.proofs.lemmas.List.{map_push}
-use Rattle.ir_table.specs.Nodes.{sketch}
+use Rattle.ir_table.specs.Info.{sketch}
 use Rattle.ir_table.proofs.TableLemmas.{sketches, lookup_none}
 use Rattle.indexmap.proofs.CallerLemmas.{insert_entry-new}
 use Rattle.ir_table.proofs.table.Table.push.Goals as goal

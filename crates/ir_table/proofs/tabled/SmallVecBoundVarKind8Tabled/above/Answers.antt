@@ -1,6 +1,11 @@
+use Rattle.std.proofs.Common.{refl}
 use Rattle.ir_table.specs.Heaps.{heap_of}
-use Rattle.ir_table.proofs.NodeLemmas.{variables_above}
+use Rattle.ir_nodes.specs.Nodes.{variable_field}
+use Rattle.ir_table.proofs.NodeLemmas.{leaf_above}
+use Rattle.ir_nodes.proofs.PlainLemmas.{fields_sizeless}
 use Rattle.ir_table.proofs.tabled.SmallVecBoundVarKind8Tabled.above.Goals as goal
 
 pub returns : goal.returns
-returns c = variables_above (heap_of c.args._store.now.tables) c.args.self.now.items c.leaf.result c.leaf.ensures
+returns c =
+    leaf_above (heap_of c.args._store.now.tables) _ (record { leaf = refl; flags = refl; number = refl; size = fields_sizeless variable_field (λ _. refl) c.args.self.now.items }) refl
+    c.leaf.result c.leaf.ensures

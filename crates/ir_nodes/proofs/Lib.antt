@@ -1,0 +1,4 @@
+pub mod RowLemmas
+pub mod ShapeLemmas
+pub mod FitLemmas
+pub mod PlainLemmas

@@ -1,0 +1,9 @@
+pub mod Nodes
+pub mod Fits
+pub mod Exact
+pub mod ExactNode
+pub mod Shapes
+pub mod Views
+pub mod Plain
+pub mod Values
+pub mod Layers
