@@ -28,6 +28,13 @@ is_among_left cs ds None h = absurd h
 pub says_left : (cs ds : List spec.Cause) (c : Cause) → Says c cs → Says c (cs ++ ds)
 says_left cs ds c h = is_among_left cs ds (cause_seen c) h
 
+pub says_right : (cs ds : List spec.Cause) (c : Cause) → Says c ds → Says c (cs ++ ds)
+says_right cs ds c h = by (cause_seen c) h
+  where
+    by : (o : Option spec.Cause) → IsAmong ds o → IsAmong (cs ++ ds) o
+    by (Some c) h = among_right cs ds c h
+    by None h = absurd h
+
 -- what is found first is found of the whole
 pub found_left : (cs ds : List spec.Cause) (found : Option Cause) → is_some found ≡ true → Finds found cs → Finds found (cs ++ ds)
 found_left cs ds (Some c) some h = says_left cs ds c h

@@ -1,5 +1,5 @@
 -- The names of a scope: how they are looked up, and that they keep their terms while a heap grows.
-use Rattle.std.proofs.Common.{◌≡◌, ◌∙◌, ℕ, Bool, true, false, cond, List, [], ◌∷◌, ◌++◌, map, find, bytes_eq, Some, Vec, Global, refl, sym, ap, subst}
+use Rattle.std.proofs.Common.{◌≡◌, ◌∙◌, ℕ, Bool, true, false, cond, List, [], ◌∷◌, ◌++◌, map, find, bytes_eq, Option, Some, None, is_some, Vec, Global, refl, sym, ap, subst}
 use Rattle.std.proofs.lemmas.Bool.Decides.{same_from_decides}
 use Rattle.std.proofs.lemmas.List.{map_push}
 use Rattle.std.proofs.lemmas.Slice.Eq.{bytes_eq-Decides}
@@ -7,8 +7,10 @@ use Rattle.std.specs.Map.{lookup}
 use Rattle.std.specs.Option.{option_map}
 use Rattle.ir_core.specs.declared.handles.Part.{Part}
 use Rattle.ir_laws.specs.Counts.{sort_of}
-use Rattle.ir_laws.specs.Environment.{term_named, with_term}
+use Rattle.ir_laws.specs.Cause.{Duplicate}
+use Rattle.ir_laws.specs.Environment.{is_here, is_known, term_named, with_term}
 use Rattle.ir_laws.specs.Heap.{Heap, Grows, tree_of}
+use Rattle.ir_laws.specs.Names.{if_so}
 use Rattle.ir_laws.specs.Tree.{Text}
 use Rattle.ir_script.specs.Scope.{Named, part_named, term_in, named_only, env_of, IsTerm, AreTerms}
 
@@ -43,6 +45,22 @@ term_is h (n ∷ ns) name = by (bytes_eq n.0 name) (term_is h ns name)
         → option_map (λ t. t.term) (cond b (Some (term_in h n)) (find (λ t. bytes_eq t.name name) (map (term_in h) ns))) ≡ option_map (tree_of h) (option_map (λ (n : Named). n.1) (cond b (Some n) (find (λ (n : Named). bytes_eq n.0 name) ns)))
     by true e = refl
     by false e = e
+
+-- a name is known where a part has it
+pub known_is : (h : Heap Part) (ns : List Named) (name : Text) → is_known (env_of h ns) name ≡ is_some (part_named ns name)
+known_is h ns name = ap is_here (term_is h ns name) ∙ by (part_named ns name)
+  where
+    by : (o : Option Part) → is_here (option_map (tree_of h) o) ≡ is_some o
+    by None = refl
+    by (Some q) = refl
+
+-- a name that is not declared again has no part
+pub new_name : (h : Heap Part) (ns : List Named) (name : Text) → if_so (is_known (env_of h ns) name) Duplicate ≡ [] → part_named ns name ≡ None
+new_name h ns name new = by (part_named ns name) (ap (λ b. if_so b Duplicate) (sym (known_is h ns name)) ∙ new)
+  where
+    by : (o : Option Part) → if_so (is_some o) Duplicate ≡ [] → o ≡ None
+    by None e = refl
+    by (Some q) e = absurd (cc)
 
 -- a name's part is one of a term
 pub named_is_term : (h : Heap Part) (ns : List Named) (name : Text) (q : Part) → AreTerms h ns → part_named ns name ≡ Some q → IsTerm h q

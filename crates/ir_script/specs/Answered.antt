@@ -1,20 +1,24 @@
 -- What a contract says of an answer.
-use Rattle.std.specs.Prelude.{◌≡◌, ℕ, ◌⊎◌, List, [], ◌∷◌, ◌++◌, Option, None, Some, Result, OnOk, IfErr, IfOk, codes}
+use Rattle.std.specs.Prelude.{◌≡◌, ℕ, ◌⊎◌, List, [], ◌∷◌, ◌++◌, Option, None, Some, Result, OnOk, IfErr, codes}
 use Rattle.ir_core.specs.declared.handles.Part.{Part}
-use Rattle.ir_laws.specs.Answer.{Answer, State, Writes, Meets, Allows, Fault, after_line, resolved, text_of_line}
+use Rattle.ir_laws.specs.Answer.{Answer, State, Writes, Meets, Allows, Fault, after_line, declared, line_text, resolved, text_of_line, with_end}
 use Rattle.ir_laws.specs.Cause as cause
-use Rattle.ir_laws.specs.Causes.{causes_of}
-use Rattle.ir_laws.specs.Environment.{tree_in}
-use Rattle.ir_laws.specs.Form.{Form, Flags}
-use Rattle.ir_laws.specs.Heap.{Heap, tree_of}
+use Rattle.ir_laws.specs.Causes.{causes_of, size_causes}
+use Rattle.ir_laws.specs.Environment.{Environment}
+use Rattle.ir_laws.specs.Form.{Form}
+use Rattle.ir_laws.specs.Heap.{Heap}
 use Rattle.ir_laws.specs.Held.{HoldsJust}
 use Rattle.ir_laws.specs.Limits.{Limits}
+use Rattle.ir_laws.specs.LineTrees.{spelled_trees}
 use Rattle.ir_laws.specs.Phrase.{Phrase}
 use Rattle.ir_laws.specs.Tree.{Text, Term}
+use Rattle.ir_table.specs.Interner.{heap}
+use Rattle.ir_table.specs.Listed.{AreListed}
+use Rattle.ir_script.specs.declared.answers.Run.{Run}
 use Rattle.ir_script.specs.declared.causes.Cause.{Cause}
 use Rattle.ir_script.specs.declared.causes.ScriptError.{ScriptError}
 use Rattle.ir_script.specs.Causes.{cause_seen, Says}
-use Rattle.ir_script.specs.Scope.{Named, env_of}
+use Rattle.ir_script.specs.Scope.{Named, AreTerms, env_of, scope_names}
 
 -- what the lines so far leave: the names over a heap, and the parts that are held
 abbrev pub left_by : Heap Part → List Named → List Term → State
@@ -40,13 +44,17 @@ pub record AnswersForm (limits : Limits) (form : Option (Form Phrase)) (s : Stat
   pub names_are : OnOk r ((left_after limits form s).environment ≡ env_of now names)
   pub fault : IfErr r (λ c. (cause_seen c ≡ None) ⊎ Says c (causes_met limits form s))
 
--- What the making of a line's only term says, after lines that left this. It meets the causes of `flags`, which does no more with its term than to write what it holds. Want of memory has no clause
-pub record MakesTerm (limits : Limits) (p : Phrase) (s : State) (now : Heap Part) (names : List Named) (r : Result Part Cause) : Type 0 where
-  pub clear : OnOk r (causes_met limits (Some (Flags p)) s ≡ [])
-  pub tree : IfOk r (λ q. tree_in s.environment p ≡ Some (tree_of now q))
-  pub left : OnOk r (HoldsJust now (left_after limits (Some (Flags p)) s).parts)
-  pub names_are : OnOk r (s.environment ≡ env_of now names)
-  pub fault : IfErr r (λ c. (cause_seen c ≡ None) ⊎ Says c (causes_met limits (Some (Flags p)) s))
+-- What the writing of a line says, whose form over trees is this, where the names mean this. Want of memory has no clause
+pub record WritesLine (limits : Limits) (env : Environment) (tree : Form Term) (now : Heap Part) (names : List Named) (old new : Text) (r : Result Unit Cause) : Type 0 where
+  pub small : OnOk r (size_causes limits (spelled_trees env tree) ≡ [])
+  pub text : OnOk r (new ≡ old ++ with_end (line_text env tree))
+  pub names_are : OnOk r (declared env tree ≡ env_of now names)
+  pub fault : IfErr r (λ c. (cause_seen c ≡ None) ⊎ Says c (size_causes limits (spelled_trees env tree)))
+
+-- the names are those of terms, and what is known of variable lists holds of the interner
+pub record IsReady (run : Run) : Type 0 where
+  pub terms : AreTerms (heap run.cx) (scope_names run.scope)
+  pub listed : AreListed (heap run.cx) run.stages.listed
 
 -- the line that says yes exactly where this holds
 abbrev pub YesOrNo : Type 0 → Text → Type 0

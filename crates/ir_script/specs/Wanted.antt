@@ -6,8 +6,8 @@ use Rattle.ir_laws.specs.Tree.{Text, Label}
 use Rattle.ir_laws.specs.Label.{empty_cause}
 use Rattle.ir_laws.specs.Sorts as spec
 use Rattle.ir_laws.specs.Sorts.{operand, an_argument}
-use Rattle.ir_script.specs.declared.places.Wanted.{Wanted}
-use Rattle.ir_script.specs.declared.places.Wanted.TheVariants.{Operand, One, TypeOrConstant, Argument, Members, Arguments}
+use Rattle.ir_script.specs.declared.sorts.Wanted.{Wanted}
+use Rattle.ir_script.specs.declared.sorts.Wanted.TheVariants.{Operand, One, TypeOrConstant, Argument, Members, Arguments}
 
 abbrev pub wanted_seen : Wanted → spec.Wanted
 wanted_seen Operand = operand

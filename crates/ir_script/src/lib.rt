@@ -2,23 +2,20 @@
 #![tactic(auto)]
 
 mod answers;
-mod build;
+mod builder;
 mod causes;
-mod expression;
 mod flags;
-mod grammar;
 mod lines;
 mod names;
-mod phrases;
-mod places;
 mod reader;
+mod resolved;
 mod scope;
+mod sorts;
+mod stages;
 #[cfg(test)]
 mod tests;
-mod variables;
-mod words;
 
 pub use answers::{Answered, answer};
 pub use causes::{Cause, ScriptError};
-pub use expression::{Expr, Exprs};
+pub use ir_syntax::{Expr, Exprs};
 pub use reader::{Line, read_line};

@@ -1,12 +1,11 @@
 //! One line of a script as its words and groups.
 ghost use Rattle.ir_laws.specs.Expression.{expressions as expressions_of};
 ghost use Rattle.ir_laws.specs.Form.{form_of};
-ghost use Rattle.ir_script.specs.Views.{exprs_in, items_of};
+ghost use Rattle.ir_syntax.specs.Views.{exprs_in, items_of};
 ghost use Rattle.std.specs.Prelude.{◌≡◌, ◌⊎◌, None, Some, IfErr, IfOk, IsSome, OnOk};
 
 use crate::causes::Cause;
-use crate::expression::{Exprs, expressions};
-use crate::grammar::form_of_items;
+use ir_syntax::{Exprs, Reader, expressions};
 use std::alloc::Global;
 
 /// A line that has a form of the grammar.
@@ -25,7 +24,7 @@ pub fn read_line(alloc: Global, line: &[u8]) -> Result<Line<'_>, Cause>
     let Some(parts) = expressions(alloc, line)? else {
         return Err(Cause::Syntax);
     };
-    if form_of_items(alloc, parts.as_slice())?.is_none() {
+    if Reader::new(alloc).read_line(line)?.is_none() {
         return Err(Cause::Syntax);
     }
     Ok(Line { parts })

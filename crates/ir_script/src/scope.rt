@@ -1,14 +1,10 @@
 //! The names that earlier lines declare.
 ghost use Rattle.ir_core.specs.declared.errors.TermError.TheVariants.{Memory};
 ghost use Rattle.ir_script.specs.Scope.{scope_names, part_named};
-ghost use Rattle.ir_nodes.specs.Fits.{part_sort};
-ghost use Rattle.std.specs.Option.{option_map};
 ghost use Rattle.std.specs.Prelude.{◌≡◌, ◌++◌, ◌∷◌, [], None, Err, OnErr, OnOk};
 
 use indexmap::IndexMap;
 use ir_core::{Part, R, TermError};
-use ir_laws::Sort;
-use ir_nodes::sort_of_part;
 use std::alloc::Global;
 
 /// Names in the order in which they were declared, each with the part of its term.
@@ -32,14 +28,6 @@ impl Scope {
         ensures { result ≡ part_named (scope_names self.now) name.now }
     {
         self.parts.get(name).copied()
-    }
-
-    /// The sort of the part that the name stands for.
-    pub(crate) fn sort_of(&self, name: &[u8]) -> Option<Sort>
-        ensures { result ≡ option_map part_sort (part_named (scope_names self.now) name.now) }
-    {
-        let part = self.find(name)?;
-        Some(sort_of_part(part))
     }
 
     /// Lets a new name stand for the part. It is refused only for want of memory, and the names are then as they were.

@@ -1,5 +1,6 @@
 //! Parts made anew: the label and the binder of a part over other kids.
 ghost use Rattle.ir_core.specs.declared.handles.Part.TheVariants as part;
+ghost use Rattle.ir_core.specs.declared.handles.PartSort.TheVariants as handle;
 ghost use Rattle.ir_laws.specs.Heap.{Each, IsLive};
 ghost use Rattle.ir_laws.specs.declared.words.Word.TheVariants.{TypeList};
 ghost use Rattle.ir_core.specs.Parts.{sort_in};
@@ -41,6 +42,7 @@ impl Store {
         requires live { Each (IsLive (heap_of self.old.tables)) parts.now }
         requires types { are_types parts.now ≡ true }
         ensures answers { NewAnswers (λ p. p) (stored self.old) (stored self.new) (layer TypeList [] parts.now) result }
+        ensures list { IfOk result (λ p. sort_in p ≡ handle.Tys) }
         ensures asked { self.new.asked ≡ rises self.old.asked }
     {
         match types_in(self.alloc, parts) {
@@ -78,6 +80,17 @@ impl Store {
 }
 
 impl Interner {
+    /// The list of the types that the parts are. It answers as `Tys::new_from_slice` does.
+    pub fn types(&mut self, parts: &[Part]) -> R<Part>
+        requires live { Each (IsLive (heap self.old)) parts.now }
+        requires types { are_types parts.now ≡ true }
+        ensures answers { NewAnswers (λ p. p) (state self.old) (state self.new) (layer TypeList [] parts.now) result }
+        ensures list { IfOk result (λ p. sort_in p ≡ handle.Tys) }
+        ensures asked { Asks self.old self.new }
+    {
+        self.store.types(parts)
+    }
+
     /// The part with the label and the binder of this one, over these kids: as many as its own, and of the same sorts. It answers as the making call of the part's sort does.
     pub fn with_kids(&mut self, part: Part, kids: &[Part]) -> R<Part>
         requires part { IsLive (heap self.old) part }

@@ -1,0 +1,34 @@
+use Rattle.std.proofs.Common.{rules, arith, ◌≡◌, ◌∙◌, ◌++◌, ◌∷◌, [], ◌-◌, take, length, Err, refl, ap}
+use Rattle.std.proofs.lemmas.Result.{err_from_is_err_and}
+use Rattle.ir_script.proofs.MakingLemmas.{list_makes, list_taken, members_live, members_types, slice_top, takes_err, takes_late, takes_ok}
+use Rattle.ir_script.proofs.builder.Builder.list.Goals as goal
+
+pub types-requires-clause-live : goal.types-requires-clause-live
+types-requires-clause-live c =
+    let at : c.saturating_sub-at.result ≡ length c.args.self.now.parts.items - c.args.count = first_of (search rules, grind arith) in
+    members_live _ c.requires.grove _ c.args.count c.requires.grown _ (slice_top _ _ c.args.count _ c.deref.ensures.value at)
+
+pub types-requires-clause-types : goal.types-requires-clause-types
+types-requires-clause-types c =
+    let at : c.saturating_sub-at.result ≡ length c.args.self.now.parts.items - c.args.count = first_of (search rules, grind arith) in
+    members_types _ c.requires.grove _ c.args.count c.requires.grown _ (slice_top _ _ c.args.count _ c.deref.ensures.value at) c.requires.fits
+
+pub returns-in_err-list : goal.returns-in_err-list
+returns-in_err-list c = λ h g grows grown fits.
+    let from = err_from_is_err_and c.from_residual.result c.from_residual.ensures.1 in
+    let at : c.saturating_sub-at.result ≡ length c.args.self.now.parts.items - c.args.count = first_of (search rules, grind arith) in
+    takes_err h g _ _ _ _ _ _ _ refl (from.1 ∙ ap Err from.2) (list_makes _ g _ c.args.count grown _ (slice_top _ _ c.args.count _ c.deref.ensures.value at) _ _ refl c.args.cx.now.store.counted _ c.in_err-list.ensures.answers)
+
+pub returns-in_err-push : goal.returns-in_err-push
+returns-in_err-push c = λ h g grows grown fits.
+    let from = err_from_is_err_and c.from_residual-in_err-push.result c.from_residual-in_err-push.ensures.1 in
+    let at : c.saturating_sub-at.result ≡ length c.args.self.now.parts.items - c.args.count = first_of (search rules, grind arith) in
+    takes_late h g _ _ _ _ _ _ _ _ refl from.1 from.2 (list_makes _ g _ c.args.count grown _ (slice_top _ _ c.args.count _ c.deref.ensures.value at) _ _ refl c.args.cx.now.store.counted _ c.in_ok-list.ensures.answers)
+
+pub returns : goal.returns
+returns c = λ h g grows grown fits.
+    let at : c.saturating_sub-at.result ≡ length c.args.self.now.parts.items - c.args.count = first_of (search rules, grind arith) in
+    let taken = slice_top _ _ c.args.count _ c.deref.ensures.value at in
+    takes_ok h g _ _ _ _ _ _ refl (list_makes _ g _ c.args.count grown _ taken _ _ refl c.args.cx.now.store.counted _ c.in_ok-list.ensures.answers)
+    (list_taken _ g _ c.args.count grown _ taken c.args.word _ _ refl _ c.in_ok-list.ensures.list c.in_ok-list.ensures.answers _
+    (c.in_ok-push.ensures.items ∙ ap (λ qs. qs ++ c.in_ok-list.list ∷ []) (c.truncate.ensures.items ∙ ap (λ n. take n c.args.self.now.parts.items) at)) refl refl refl)

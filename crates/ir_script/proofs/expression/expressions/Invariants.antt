@@ -1,9 +1,0 @@
-use Rattle.ir_script.specs.Nesting.{stack_of}
-use Rattle.ir_script.proofs.ExpressionLemmas.{IsReadFrom}
-use Rattle.ir_script.proofs.expression.expressions.Given as goal
-
-abbrev pub invariant-loop-groups : goal.invariant-loop-groups
-invariant-loop-groups l = IsReadFrom l.line l.end (stack_of l.groups)
-
-abbrev pub decreases-loop-groups : goal.decreases-loop-groups
-decreases-loop-groups l = l.end

@@ -1,0 +1,9 @@
+pub mod LabelLemmas
+pub mod ExpressionLemmas
+pub mod WordLemmas
+pub mod FitLemmas
+pub mod FrameLemmas
+pub mod TokenLemmas
+pub mod ReaderLemmas
+pub mod AskedLemmas
+pub mod RoomLemmas

@@ -1,0 +1,9 @@
+use Rattle.std.proofs.Common.{◌≡◌, ◌+◌, ◌≤◌, length, drop}
+use Rattle.ir_laws.specs.Names.{field_forms}
+use Rattle.ir_syntax.proofs.fields.field_count.Given as goal
+
+abbrev pub invariant-loop-part : goal.invariant-loop-part
+invariant-loop-part l = record {
+  so_far : l.count + length (field_forms (drop l.part-index l.parts)) ≡ length (field_forms l.parts);
+  few : l.count ≤ l.part-index;
+}

@@ -1,0 +1,9 @@
+pub mod Views
+pub mod Nesting
+pub mod Grammar
+pub mod Labels
+pub mod Steps
+pub mod Frames
+pub mod Tokens
+pub mod Reading
+pub mod Commands
