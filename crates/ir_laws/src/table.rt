@@ -384,6 +384,7 @@ impl Word {
     }
 
     /// The word that begins a label of this word, or is the label. A list has none.
+    #[inline(always)]
     pub fn text(self) -> &'static [u8]
         ensures { result.now ≡ (row self).text }
     {
@@ -391,6 +392,7 @@ impl Word {
     }
 
     /// What is written behind it, in order; nothing for a bare word.
+    #[inline(always)]
     pub fn parts(self) -> &'static [Part]
         ensures { result.now ≡ (row self).parts }
     {

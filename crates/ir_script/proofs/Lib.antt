@@ -12,6 +12,7 @@ pub mod TreeLemmas
 pub mod MadeLemmas
 pub mod StandLemmas
 pub mod GroveLemmas
+pub mod LeafLemmas
 pub mod MakingLemmas
 pub mod GoodLemmas
 pub mod MeaningLemmas

@@ -1,5 +1,5 @@
 -- What the making of terms keeps, step by step.
-use Rattle.std.proofs.Common.{◌≡◌, ◌∙◌, ℕ, zero, suc, ◌-◌, ◌≤◌, Bool, true, false, ◌&&◌, not, List, [], ◌∷◌, ◌++◌, length, take, drop, map, Option, Some, None, is_some, option_map, unwrap_or, Result, Ok, Err, refl, sym, ap, subst, arith}
+use Rattle.std.proofs.Common.{◌≡◌, ◌∙◌, ℕ, zero, suc, ◌-◌, ◌≤◌, Bool, true, false, ◌&&◌, not, List, [], ◌∷◌, ◌++◌, length, take, drop, map, Option, Some, None, is_some, option_map, unwrap_or, Result, Ok, Err, refl, sym, ap, subst, ⊎_elim, arith}
 use Rattle.std.specs.List.{list_all}
 use Rattle.std.proofs.lemmas.Bool.{false≢true}
 use Rattle.std.proofs.lemmas.List.{drop-map, length-drop, length-map, take_all, take-map}
@@ -16,7 +16,7 @@ use Rattle.ir_core.specs.declared.variables.BoundVarKind.{BoundVarKind}
 use Rattle.ir_laws.specs.Counts.{sort_of, sort_of_label}
 use Rattle.ir_laws.specs.Formed.{bind_fits, fields_fit, kid_forms}
 use Rattle.ir_laws.specs.Heap.{Each, Grows, Heap, IsLive, IsSound, Layer, forest, kinds_among, kinds_at, names_in, plant, tree_above, tree_of, with_binder}
-use Rattle.ir_laws.specs.Held.{Counts}
+use Rattle.ir_laws.specs.Held.{Counts, Stands}
 use Rattle.ir_laws.specs.Label.{row}
 use Rattle.ir_laws.specs.Names.{field_forms}
 use Rattle.ir_laws.specs.Parts.{has_for_group, is_part, parts, variable_list}
@@ -27,18 +27,21 @@ use Rattle.ir_laws.specs.declared.labels.Part.{Part as RowPart}
 use Rattle.ir_laws.specs.declared.labels.Sort.{Sort}
 use Rattle.ir_laws.specs.declared.words.Word.{Word}
 use Rattle.ir_laws.specs.declared.words.Word.TheVariants.{TypeList, VariableList}
-use Rattle.ir_laws.proofs.HeapLemmas.{binder_tree}
+use Rattle.ir_laws.proofs.HeapLemmas.{Grows-refl, binder_tree}
 use Rattle.ir_laws.proofs.HeldLemmas.{parts_stand}
+use Rattle.ir_laws.proofs.PartSets.{no_part, part_of_cons}
 use Rattle.ir_laws.proofs.PlantLemmas.{label_in, sort-plant}
 use Rattle.ir_nodes.specs.Fits.{are_types, handle_sort, is_wanted, kids_fit, part_sort, term_sort}
 use Rattle.ir_nodes.specs.Nodes.{Fields, field_seen, layer, layer_of, variable_field, variable_seen, variables_layer}
-use Rattle.ir_script.specs.Grove.{AllFit as StepsFit, Fits, Grove, LabelFits, Root, are_wanted, bare, grove, grove_on, grown, label_root, list_root, made, own_group, own_kids, own_label}
+use Rattle.ir_script.specs.Grove.{AllFit as StepsFit, Fits, Grove, LabelFits, Root, are_wanted, bare, grove, grove_on, grown, label_root, list_root, made, own_group, own_kids, own_label, with_roots}
+use Rattle.ir_script.specs.Kept.{IsLeafOf}
 use Rattle.ir_script.specs.Making.{AreRoots, FitsNode, IsGroup, IsGrown, IsNext, IsRoot, Pairs, Takes, TakesStep, added, binder_on, fields_on, kids_on}
 use Rattle.ir_syntax.specs.Steps.{below, field_count, first_of, group_count, kid_count, top}
 use Rattle.ir_script.specs.declared.builder.Builder.{Builder}
 use Rattle.ir_script.specs.declared.resolved.Resolved.{Resolved}
 use Rattle.ir_script.specs.declared.resolved.Resolved.TheVariants as step
 use Rattle.ir_script.proofs.GroveLemmas.{made_more, made_step}
+use Rattle.ir_script.proofs.LeafLemmas.{leaf_grown, leaf_is, root_later}
 use Rattle.ir_script.proofs.MadeLemmas.{makes_memory}
 use Rattle.ir_script.proofs.StandLemmas.{makes_standing}
 use Rattle.ir_table.proofs.CallerLemmas.{AllFit, live_binder, live_sort, makes_err, makes_new, makes_none, makes_ok, makes_same, makes_then, same_fits}
@@ -161,15 +164,12 @@ binds_there parts (Some v) (Some ks) h e fits = sym fits
 -- ---- what the stacks name, later
 
 module _ (h k : Heap Part) (grows : Grows h k) where
-  root_later : (r : Root) (q : Part) → IsRoot h r q → IsRoot k r q
-  root_later r q is = record { live = grows.live q is.live; tree = grows.tree q is.live ∙ is.tree; sort = is.sort }
-
   group_later : (ks : List (Kind SolverDefId)) (v : BoundVarKinds) → IsGroup h ks v → IsGroup k ks v
   group_later ks v is = record { live = grows.live (part.BoundVarKinds v) is.live; kinds = grows.kinds (part.BoundVarKinds v) is.live ∙ is.kinds }
 
   pub grown_later : (g : Grove) (b : Builder) → IsGrown h g b → IsGrown k g b
   grown_later g b is = record {
-    roots = pairs_weaker (IsRoot h) (IsRoot k) root_later g.roots b.parts.items is.roots;
+    roots = pairs_weaker (IsRoot h) (IsRoot k) (root_later h k grows) g.roots b.parts.items is.roots;
     fields = is.fields;
     kinds = is.kinds;
     groups = pairs_weaker (IsGroup h) (IsGroup k) group_later g.groups b.binders.items is.groups;
@@ -218,16 +218,21 @@ module _ (h : Heap Part) (g : Grove) (b : Builder) (w : Word) (is : IsGrown h g 
   pub label_tree : (label_root w g).tree ≡ tree_above h own_layer
   label_tree = (λ i. plant (record { label = record { word = w; fields = sym own_fields i }; bind = sym own_binder i }) (sym (roots_trees h (own_kids w g) (kids_on w b) own_roots) i))
 
+  -- the part that was made is the label's root
+  pub label_made : (t : Tables) (k : Heap Part) → k ≡ heap_of t → IsSound (heap_of t) → (q : Part) → LabelFits w g → IsLive k q → tree_of k q ≡ tree_above h own_layer → IsRoot k (label_root w g) q
+  label_made t k heap sound q fits live tree_is =
+      let tree_of_q = tree_is ∙ sym label_tree in
+      let sorted : handle_sort (sort_in q) ≡ sort_of_label (own_label w g) = sym (subst (λ j. IsLive j q → sort_of (tree_of j q) ≡ part_sort q) (sym heap) (live_sort t sound q) live) ∙ ap sort_of tree_of_q ∙ sort-plant (record { label = own_label w g; bind = own_group w g }) (forest (λ r. r.tree) (own_kids w g)) in
+      record { live = live; tree = tree_of_q; sort = handle_is (sort_in q) (sort_of_label (own_label w g)) sorted fits.sort }
+
   pub label_taken : (t : Tables) (k : Heap Part) → k ≡ heap_of t → IsSound (heap_of t) → Grows h k → (sort : Sort) (q : Part) → LabelFits w g → IsLive k q → tree_of k q ≡ tree_above h own_layer → (c : Builder)
       → c.parts.items ≡ below (kid_count (row w).parts) b.parts.items ++ q ∷ [] → c.fields.items ≡ below (field_count (row w).parts) b.fields.items → c.variables.items ≡ b.variables.items → c.binders.items ≡ below (group_count (row w).parts) b.binders.items
       → IsGrown k (grown h g (step.Label w sort)) c
   label_taken t k heap sound grows sort q fits live tree_is c parts_are fields_are variables_are binders_are =
       let later = grown_later h k grows g b is in
-      let tree_of_q = tree_is ∙ sym label_tree in
-      let sorted : handle_sort (sort_in q) ≡ sort_of_label (own_label w g) = sym (subst (λ j. IsLive j q → sort_of (tree_of j q) ≡ part_sort q) (sym heap) (live_sort t sound q) live) ∙ ap sort_of tree_of_q ∙ sort-plant (record { label = own_label w g; bind = own_group w g }) (forest (λ r. r.tree) (own_kids w g)) in
       record {
         roots = subst (AreRoots k (below (kid_count (row w).parts) g.roots ++ label_root w g ∷ [])) (sym parts_are)
-            (pairs_push (IsRoot k) _ _ (label_root w g) q (pairs_below (IsRoot k) (kid_count (row w).parts) g.roots b.parts.items later.roots) (record { live = live; tree = tree_of_q; sort = handle_is (sort_in q) (sort_of_label (own_label w g)) sorted fits.sort }));
+            (pairs_push (IsRoot k) _ _ (label_root w g) q (pairs_below (IsRoot k) (kid_count (row w).parts) g.roots b.parts.items later.roots) (label_made t k heap sound q fits live tree_is));
         fields = ap (map field_seen) fields_are ∙ below_seen field_seen (field_count (row w).parts) b.fields.items g.fields is.fields;
         kinds = ap (map variable_seen) variables_are ∙ is.kinds;
         groups = subst (Pairs (IsGroup k) (below (group_count (row w).parts) g.groups)) (sym binders_are) (pairs_below (IsGroup k) (group_count (row w).parts) g.groups b.binders.items later.groups);
@@ -321,25 +326,44 @@ module _ (h : Heap Part) (g : Grove) (old new : State) (s : Resolved) where
   pub takes_ok : {T : Type 0} (c : Builder) (x : T) (ts : List Term) → added h g s ≡ ts → Makes old new ts (Ok x) → IsGrown new.heap (grown h g s) c → Takes h g old new c s (Ok tt)
   takes_ok c x ts is makes grown = record { makes = subst (λ us. Makes old new us (Ok tt)) (sym is) (makes_ok old new ts x tt makes); grown = grown }
 
--- a part that stands already
+-- a step for which a part stands already
+takes_standing : (h : Heap Part) (g : Grove) (s : State) (b c : Builder) (t : Resolved) (r : Root) (q : Part) → ((u : Term) → is_part (added h g t) u ≡ true → Stands s.heap u) → with_roots (g.roots ++ r ∷ []) g ≡ grown h g t → IsRoot s.heap r q → IsGrown s.heap g b
+    → c.parts.items ≡ b.parts.items ++ q ∷ [] → c.fields.items ≡ b.fields.items → c.variables.items ≡ b.variables.items → c.binders.items ≡ b.binders.items
+    → Takes h g s s c t (Ok tt)
+takes_standing h g s b c t r q stand grows root is parts_are fields_are variables_are binders_are = record {
+  makes = makes_standing s (added h g t) tt stand;
+  grown = subst (λ g. IsGrown s.heap g c) grows (record {
+    roots = subst (AreRoots s.heap (g.roots ++ r ∷ [])) (sym parts_are) (pairs_push (IsRoot s.heap) g.roots b.parts.items r q is.roots root);
+    fields = ap (map field_seen) fields_are ∙ is.fields;
+    kinds = ap (map variable_seen) variables_are ∙ is.kinds;
+    groups = subst (Pairs (IsGroup s.heap) g.groups) (sym binders_are) is.groups;
+  });
+}
+
+-- a name's part
 pub takes_term : (h : Heap Part) (g : Grove) (s : State) (b c : Builder) (t : Resolved) (q : Part) → t ≡ step.Term q → IsSound s.heap → Grows h s.heap → Fits h g t → IsGrown s.heap g b → c.parts.items ≡ b.parts.items ++ q ∷ [] → c.fields.items ≡ b.fields.items → c.variables.items ≡ b.variables.items → c.binders.items ≡ b.binders.items
     → Takes h g s s c t (Ok tt)
 takes_term h g s b c t q here sound grows fits is parts_are fields_are variables_are binders_are =
     let live = subst (Fits h g) here fits in
-    let live_now = grows.live q live in
-    subst (λ t. Takes h g s s c t (Ok tt)) (sym here) (record {
-      makes = makes_ok s s (parts (tree_of h q)) q tt (subst (λ t. Makes {T = Part} s s (parts t) (Ok q)) (grows.tree q live) (makes_standing s q live_now (parts_stand s.heap sound (tree_of s.heap q) q live_now refl)));
-      grown = record {
-        roots = subst (AreRoots s.heap (g.roots ++ record { tree = tree_of h q; sort = sort_in q } ∷ [])) (sym parts_are) (pairs_push (IsRoot s.heap) g.roots b.parts.items _ q is.roots (record { live = live_now; tree = grows.tree q live; sort = refl }));
-        fields = ap (map field_seen) fields_are ∙ is.fields;
-        kinds = ap (map variable_seen) variables_are ∙ is.kinds;
-        groups = subst (Pairs (IsGroup s.heap) g.groups) (sym binders_are) is.groups;
-      };
-    })
+    let root : IsRoot s.heap (record { tree = tree_of h q; sort = sort_in q }) q = record { live = grows.live q live; tree = grows.tree q live; sort = refl } in
+    subst (λ t. Takes h g s s c t (Ok tt)) (sym here) (takes_standing h g s b c (step.Term q) _ q (parts_stand s.heap sound (tree_of h q) q root.live root.tree) refl root is parts_are fields_are variables_are binders_are)
+
+-- the part of a label that is a word alone
+pub takes_leaf : (h : Heap Part) (g : Grove) (s : State) (b c : Builder) (t : Resolved) (w : Word) (sort : Sort) (q : Part) → t ≡ step.Label w sort → IsLeafOf s.heap w q → IsGrown s.heap g b → c.parts.items ≡ b.parts.items ++ q ∷ [] → c.fields.items ≡ b.fields.items → c.variables.items ≡ b.variables.items → c.binders.items ≡ b.binders.items
+    → Takes h g s s c t (Ok tt)
+takes_leaf h g s b c t w sort q here leaf is parts_are fields_are variables_are binders_are =
+    let root = subst (λ r. IsRoot s.heap r q) (sym (leaf_is w g leaf.bare)) leaf.root in
+    subst (λ t. Takes h g s s c t (Ok tt)) (sym here) (takes_standing h g s b c (step.Label w sort) (label_root w g) q
+    (λ u m. ⊎_elim (λ same. (q, root.live, root.tree ∙ same)) (λ none. absurd (no_part u none)) (part_of_cons (label_root w g).tree [] u m))
+    (leaf_grown h g w sort leaf.bare) root is parts_are fields_are variables_are binders_are)
 
 -- what is said of a step is said of what it is
 pub takes_as : (old new : State) (b c : Builder) (s t : Resolved) (r : Result Unit TermError) → t ≡ s → TakesStep old new b c s r → TakesStep old new b c t r
 takes_as old new b c s t r is takes = subst (λ s. TakesStep old new b c s r) (sym is) takes
+
+-- a heap grows with a step
+pub step_grows : (old new : State) (b c : Builder) (t s : Resolved) (r : Result Unit TermError) → t ≡ s → IsNext old.heap b t → TakesStep old new b c s r → Grows old.heap new.heap
+step_grows old new b c t s r is next takes = (takes_as old new b c s t r is takes old.heap next.grove (Grows-refl old.heap) next.grown next.fits).makes.grows
 
 -- ---- all steps
 

@@ -205,11 +205,11 @@ module _ (old : State) {ns : List Named} {alike : Bool} {rs seen : List Resolved
 
 module _ (old : State) (ns : List Named) (ps : List Phrase) where
   pub stand_not : {new : State} {qs : List Part} {r : Result Unit TermError} → MadeAll (env_of old.heap ns) old new ps qs r → (s : Result Unit Cause) → IsErr s → StandTerms ns ps old new qs s
-  stand_not b (Err c) e = record { limits = b.makes.limits; names = tt; made = tt; count = tt }
+  stand_not b (Err c) e = record { limits = b.makes.limits; grows = tt; names = tt; made = tt; count = tt }
   stand_not b (Ok x) e = absurd (true≢false (sym e))
 
   pub stand_made : (cx : Interner) {qs : List Part} → AreTerms old.heap ns → MadeAll (env_of old.heap ns) old (state cx) ps qs (Ok tt) → StandTerms ns ps old (state cx) qs (Ok tt)
-  stand_made cx {qs} terms b = record { limits = b.makes.limits; names = terms_later old.heap (heap cx) b.makes.grows ns terms; made = terms_of cx qs b.live b.kinds; count = b.count }
+  stand_made cx {qs} terms b = record { limits = b.makes.limits; grows = b.makes.grows; names = terms_later old.heap (heap cx) b.makes.grows ns terms; made = terms_of cx qs b.live b.kinds; count = b.count }
 
 module _ (old : State) (held : List Term) (ns : List Named) (alike : Bool) (ps : List Phrase) (just : HoldsJust old.heap held)
     (known : operand_unknowns (env_of old.heap ns) ps ≡ []) (sorts : sort_stage (env_of old.heap ns) alike ps ≡ []) where

@@ -13,11 +13,11 @@ use Rattle.ir_laws.specs.LineTrees.{spelled_trees}
 use Rattle.ir_laws.specs.Phrase.{Phrase}
 use Rattle.ir_laws.specs.Tree.{Text, Term}
 use Rattle.ir_table.specs.Interner.{heap}
-use Rattle.ir_table.specs.Listed.{AreListed}
 use Rattle.ir_script.specs.declared.answers.Run.{Run}
 use Rattle.ir_script.specs.declared.causes.Cause.{Cause}
 use Rattle.ir_script.specs.declared.causes.ScriptError.{ScriptError}
 use Rattle.ir_script.specs.Causes.{cause_seen, Says}
+use Rattle.ir_script.specs.Kept.{AreKnown, IsKept}
 use Rattle.ir_script.specs.Scope.{Named, AreTerms, env_of, scope_names}
 
 -- what the lines so far leave: the names over a heap, and the parts that are held
@@ -51,10 +51,11 @@ pub record WritesLine (limits : Limits) (env : Environment) (tree : Form Term) (
   pub names_are : OnOk r (declared env tree ≡ env_of now names)
   pub fault : IfErr r (λ c. (cause_seen c ≡ None) ⊎ Says c (size_causes limits (spelled_trees env tree)))
 
--- the names are those of terms, and what is known of variable lists holds of the interner
+-- the names are those of terms, and what is known from line to line holds
 pub record IsReady (run : Run) : Type 0 where
   pub terms : AreTerms (heap run.cx) (scope_names run.scope)
-  pub listed : AreListed (heap run.cx) run.stages.listed
+  pub kept : IsKept (heap run.cx) run.stages
+  pub known : AreKnown (heap run.cx) run.text run.spellings
 
 -- the line that says yes exactly where this holds
 abbrev pub YesOrNo : Type 0 → Text → Type 0

@@ -8,5 +8,6 @@ pub mod Wanted
 pub mod Operands
 pub mod Grove
 pub mod Making
+pub mod Kept
 pub mod Answered
 pub mod Staged

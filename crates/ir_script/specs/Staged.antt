@@ -7,7 +7,7 @@ use Rattle.ir_laws.specs.Cause as cause
 use Rattle.ir_laws.specs.Causes.{earliest, limit_causes, unlisted_causes}
 use Rattle.ir_laws.specs.Environment.{Environment, tree_in}
 use Rattle.ir_laws.specs.Formed.{is_formed}
-use Rattle.ir_laws.specs.Heap.{Each, tree_of}
+use Rattle.ir_laws.specs.Heap.{Each, Grows, tree_of}
 use Rattle.ir_laws.specs.Held.{HoldsJust}
 use Rattle.ir_laws.specs.Limits.{Limits, capped}
 use Rattle.ir_laws.specs.Names.{unless}
@@ -61,6 +61,7 @@ pub record MakesTerms (alike : Bool) (ps : List Phrase) (ns : List Named) (held 
 -- what stands then, whatever was held
 pub record StandTerms (ns : List Named) (ps : List Phrase) (old new : State) (qs : List Part) (r : Result Unit Cause) : Type 0 where
   pub limits : new.limits ≡ old.limits
+  pub grows : OnOk r (Grows old.heap new.heap)
   pub names : OnOk r (AreTerms new.heap ns)
   pub made : OnOk r (Each (IsTerm new.heap) qs)
   pub count : OnOk r (length qs ≡ length ps)

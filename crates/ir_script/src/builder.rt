@@ -1,15 +1,19 @@
 //! The making of terms: from resolved steps to parts of an interner.
+ghost use Rattle.ir_core.specs.declared.handles.Part.{Part as PartSeen};
+ghost use Rattle.ir_laws.specs.Heap.{Heap};
 ghost use Rattle.ir_laws.specs.Label.{row};
 ghost use Rattle.ir_nodes.specs.Fits.{fits_row};
 ghost use Rattle.ir_nodes.specs.Nodes.{layer_of, node_layer};
 ghost use Rattle.ir_script.specs.Making.{AreRoots, FitsNode, IsNext, TakesStep, binder_on, fields_on, kids_on};
 ghost use Rattle.ir_script.specs.Grove.{AllFit, bare, grove, made};
+ghost use Rattle.ir_script.specs.Kept.{AreLeaves};
 ghost use Rattle.ir_script.specs.declared.resolved.Resolved.TheVariants as resolved;
 ghost use Rattle.ir_syntax.specs.Steps.{field_count, group_count, kid_count};
 ghost use Rattle.ir_table.specs.Interner.{heap, state};
 ghost use Rattle.ir_table.specs.State.{Makes};
 ghost use Rattle.std.specs.Prelude.{◌≡◌, ◌-◌, [], length, take, true, OnOk};
 
+use crate::leaves::Leaves;
 use crate::resolved::Resolved;
 use ir_core::{BoundVarKind, BoundVarKinds, Part, R};
 use ir_laws::{Part as RowPart, Sort, Word};
@@ -25,6 +29,7 @@ pub(crate) struct Builder {
     fields: Vec<Field>,
     variables: Vec<BoundVarKind>,
     binders: Vec<BoundVarKinds>,
+    leaves: Leaves,
 }
 
 // How many groups of variable kinds the parts take: one at most.
@@ -42,12 +47,15 @@ fn group_count(parts: &[RowPart]) -> usize
 
 impl Builder {
     /// Nothing made, which takes no memory.
-    pub(crate) fn new(alloc: Global) -> Self {
+    pub(crate) fn new(alloc: Global) -> Self
+        ensures leaves { (h : Heap PartSeen) → AreLeaves h result.leaves }
+    {
         Builder {
             parts: Vec::new(alloc),
             fields: Vec::new(alloc),
             variables: Vec::new(alloc),
             binders: Vec::new(alloc),
+            leaves: Leaves::new(),
         }
     }
 
@@ -71,6 +79,7 @@ impl Builder {
         ensures fields { self.new.fields.items ≡ take (length self.old.fields.items - field_count (row word).parts) self.old.fields.items }
         ensures variables { self.new.variables.items ≡ self.old.variables.items }
         ensures binders { self.new.binders.items ≡ take (length self.old.binders.items - group_count (row word).parts) self.old.binders.items }
+        ensures leaves { self.new.leaves ≡ self.old.leaves }
     {
         let row = word.parts();
         let fields = self.fields.len().saturating_sub(field_count(row));
@@ -84,7 +93,8 @@ impl Builder {
     // The list of the topmost so many variables.
     fn bind(&mut self, cx: &mut Interner, count: usize) -> R<()>
         requires { IsNext (heap cx.old) self.old (resolved.Bind count) }
-        ensures { TakesStep (state cx.old) (state cx.new) self.old self.new (resolved.Bind count) result }
+        ensures takes { TakesStep (state cx.old) (state cx.new) self.old self.new (resolved.Bind count) result }
+        ensures leaves { self.new.leaves ≡ self.old.leaves }
     {
         let at = self.variables.len().saturating_sub(count);
         let list = BoundVarKinds::new_from_slice(cx, &self.variables[at..])?;
@@ -95,11 +105,14 @@ impl Builder {
 
     // The part of a label.
     fn label(&mut self, cx: &mut Interner, word: Word, sort: Sort) -> R<()>
-        requires { IsNext (heap cx.old) self.old (resolved.Label word sort) }
-        ensures { TakesStep (state cx.old) (state cx.new) self.old self.new (resolved.Label word sort) result }
+        requires next { IsNext (heap cx.old) self.old (resolved.Label word sort) }
+        requires leaves { AreLeaves (heap cx.old) self.old.leaves }
+        ensures takes { TakesStep (state cx.old) (state cx.new) self.old self.new (resolved.Label word sort) result }
+        ensures leaves { OnOk result (AreLeaves (heap cx.new) self.new.leaves) }
     {
         let part = cx.node(self.node(word))?;
         self.cut(word);
+        self.leaves.keep(word, part);
         self.parts.push(part)?;
         Ok(())
     }
@@ -107,7 +120,8 @@ impl Builder {
     // The list of the topmost so many parts.
     fn list(&mut self, cx: &mut Interner, word: Word, count: usize) -> R<()>
         requires { IsNext (heap cx.old) self.old (resolved.List word count) }
-        ensures { TakesStep (state cx.old) (state cx.new) self.old self.new (resolved.List word count) result }
+        ensures takes { TakesStep (state cx.old) (state cx.new) self.old self.new (resolved.List word count) result }
+        ensures leaves { self.new.leaves ≡ self.old.leaves }
     {
         let at = self.parts.len().saturating_sub(count);
         let list = cx.types(&self.parts[at..])?;
@@ -118,8 +132,10 @@ impl Builder {
 
     // Takes one step.
     fn step(&mut self, cx: &mut Interner, step: Resolved) -> R<()>
-        requires { IsNext (heap cx.old) self.old step }
-        ensures { TakesStep (state cx.old) (state cx.new) self.old self.new step result }
+        requires next { IsNext (heap cx.old) self.old step }
+        requires leaves { AreLeaves (heap cx.old) self.old.leaves }
+        ensures takes { TakesStep (state cx.old) (state cx.new) self.old self.new step result }
+        ensures leaves { OnOk result (AreLeaves (heap cx.new) self.new.leaves) }
     {
         match step {
             Resolved::Term(part) => {
@@ -135,16 +151,24 @@ impl Builder {
                 Ok(())
             }
             Resolved::Bind(count) => self.bind(cx, count),
-            Resolved::Label(word, sort) => self.label(cx, word, sort),
+            Resolved::Label(word, sort) => match self.leaves.find(word) {
+                Some(part) => {
+                    self.parts.push(part)?;
+                    Ok(())
+                }
+                None => self.label(cx, word, sort),
+            },
             Resolved::List(word, count) => self.list(cx, word, count),
         }
     }
 
     /// Makes the terms that the steps stand for, and leaves their parts.
     pub(crate) fn build(&mut self, cx: &mut Interner, steps: &[Resolved]) -> R<()>
-        requires { AllFit (heap cx.old) bare steps.now }
+        requires fit { AllFit (heap cx.old) bare steps.now }
+        requires leaves { AreLeaves (heap cx.old) self.old.leaves }
         ensures makes { Makes (state cx.old) (state cx.new) (made (grove (heap cx.old) steps.now)) result }
         ensures built { OnOk result (AreRoots (heap cx.new) (grove (heap cx.old) steps.now).roots self.new.parts.items) }
+        ensures leaves { OnOk result (AreLeaves (heap cx.new) self.new.leaves) }
     {
         self.parts.clear();
         self.fields.clear();

@@ -5,6 +5,7 @@ mod answers;
 mod builder;
 mod causes;
 mod flags;
+mod leaves;
 mod lines;
 mod names;
 mod reader;

@@ -255,10 +255,13 @@ fn enter(
     let Some((word, count)) = kids else {
         return Ok(());
     };
-    match wanted.length_misfit(count) {
-        Some(cause) => Err(cause),
-        None => open_kids(pending, wanted, word, count),
+    if let Some(cause) = wanted.length_misfit(count) {
+        return Err(cause);
     }
+    if count == 0 {
+        return Ok(());
+    }
+    open_kids(pending, wanted, word, count)
 }
 
 /// Whether all operands have one sort, if each term suits its place. The steps are read from the last one on, so that a label comes before its kids, the last of these first.

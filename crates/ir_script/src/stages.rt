@@ -7,6 +7,7 @@ ghost use Rattle.ir_laws.specs.Heap.{Each, Heap, IsLive, tree_of};
 ghost use Rattle.ir_laws.specs.Held.{HoldsJust};
 ghost use Rattle.ir_laws.specs.Tree.{Term};
 ghost use Rattle.ir_script.specs.Scope.{AreTerms, env_of, scope_names};
+ghost use Rattle.ir_script.specs.Kept.{IsKept};
 ghost use Rattle.ir_script.specs.Staged.{AreOperands, FitOperands, MakesTerms, StandTerms};
 ghost use Rattle.ir_syntax.specs.Steps.{AreAmple, built, only};
 ghost use Rattle.ir_table.specs.Interner.{heap, state};
@@ -51,7 +52,7 @@ fn all_are_listed(alloc: Global, cx: &Interner, parts: &[Part], listed: &mut Lis
 impl Stages {
     /// Stages that have seen no line, which takes no memory.
     pub(crate) fn new(alloc: Global) -> Stages
-        ensures { (h : Heap PartSeen) → AreListed h result.listed }
+        ensures { (h : Heap PartSeen) → IsKept h result }
     {
         Stages {
             names: Names::new(alloc),
@@ -74,6 +75,7 @@ impl Stages {
         requires ample { AreAmple (only []) steps.now }
         ensures fits { (h : Heap PartSeen) → AreTerms h (scope_names scope.now) → FitOperands (env_of h (scope_names scope.now)) (scope_names scope.now) alike self.new.names.resolved.items (built steps.now).terms result }
         ensures listed { self.new.listed ≡ self.old.listed }
+        ensures builder { self.new.builder ≡ self.old.builder }
     {
         self.names.resolve(scope, steps)?;
         let are_alike = misfit(&mut self.pending, &self.names.resolved)?;
@@ -95,10 +97,10 @@ impl Stages {
         requires operands { AreOperands (built steps.now) }
         requires ample { AreAmple (only []) steps.now }
         requires terms { AreTerms (heap cx.old) (scope_names scope.now) }
-        requires listed { AreListed (heap cx.old) self.old.listed }
+        requires kept { IsKept (heap cx.old) self.old }
         ensures makes { (held : List Term) → HoldsJust (heap cx.old) held → MakesTerms alike (built steps.now).terms (scope_names scope.now) held (state cx.old) (state cx.new) self.new.builder.parts.items result }
         ensures stand { StandTerms (scope_names scope.now) (built steps.now).terms (state cx.old) (state cx.new) self.new.builder.parts.items result }
-        ensures listed { OnOk result (AreListed (heap cx.new) self.new.listed) }
+        ensures kept { OnOk result (IsKept (heap cx.new) self.new) }
     {
         self.fit(scope, steps, alike)?;
         self.builder.build(cx, &self.names.resolved)?;

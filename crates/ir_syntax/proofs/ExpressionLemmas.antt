@@ -1,12 +1,12 @@
 -- How a line is read from its right.
 use Rattle.std.proofs.Common.{◌≡◌, ℕ, ◌+◌, ◌-◌, ◌<◌, ◌≤◌, if◌then◌else◌, suc, Bool, true, false, ◌&&◌, ◌||◌, not, nat_le, length, get_or, take, drop, List, [], ◌∷◌, ◌++◌, map, reverse, Some, None, Vec, Global, refl, sym, ap, ◌∙◌, subst, arith}
-use Rattle.std.specs.List.{slice_range, list_all}
+use Rattle.std.specs.List.{slice_range}
 use Rattle.std.proofs.lemmas.List.{reverse-append, drop_more, take-append-drop}
 use Rattle.std.proofs.lemmas.List.Folds.{drop_split}
 use Rattle.std.proofs.lemmas.Bool.Decides.{nat_tests}
 use mathlib.Core.Former.{Count}
 use Rattle.ir_laws.specs.Tree.{Text}
-use Rattle.ir_laws.specs.Expression.{Token, Opens, Closes, Word, Exprs, Single, Group, ThenExpr, Unclosed, is_line_byte, are_line_bytes, is_space, is_opening, is_closing, ends_word, goes_on, onto_word, tokens_of, with_group, with_token, nested, closed, depths, if_shallow, expressions}
+use Rattle.ir_laws.specs.Expression.{Token, Opens, Closes, Word, Exprs, Single, Group, ThenExpr, Unclosed, are_line_bytes, is_space, is_opening, is_closing, ends_word, goes_on, onto_word, tokens_of, with_group, with_token, nested, closed, depths, if_shallow, expressions}
 use Rattle.ir_syntax.specs.declared.expression.Expr as code
 use Rattle.ir_syntax.specs.declared.expression.Exprs as list
 use Rattle.ir_syntax.specs.Views.{expr_of, exprs_of, exprs_in, items_of}
@@ -26,11 +26,6 @@ unfolding row_of
 expr_of-Group es =
     let row = row_of (code.Group es) in
     ap Group (row_exprs row.0 row.1 ∙ ap exprs_in (code.items_hidden-the_row-Expr-0 es.items))
-
--- the bytes of a line, as a test of each
-pub are_line_bytes-list_all : (line : Text) → list_all is_line_byte line ≡ are_line_bytes line
-are_line_bytes-list_all [] = refl
-are_line_bytes-list_all (b ∷ bs) = ap (λ rest. is_line_byte b && rest) (are_line_bytes-list_all bs)
 
 -- one more byte to the left of a word
 word_more : (line : Text) (start n : ℕ) → start < length line → ends_word (get_or line start 0) ≡ false → are_word_bytes (take n (drop (start + 1) line)) ≡ true → are_word_bytes (take (suc n) (drop start line)) ≡ true

@@ -163,11 +163,15 @@ fn whole(mut items: Vec<Expr<'_>>) -> Exprs<'_>
     Exprs { items }
 }
 
-/// Whether a line may hold these bytes.
+/// Whether a line may hold these bytes. It looks at all of them, which takes less time than to stop at the first that it may not hold.
 pub(crate) fn is_readable(line: &[u8]) -> bool
     ensures { result ≡ syntax.are_line_bytes line.now }
 {
-    line.iter().all(|byte| is_line_byte(*byte))
+    let mut readable = true;
+    for byte in line {
+        readable &= is_line_byte(*byte);
+    }
+    readable
 }
 
 /// Whether a line may hold a byte.

@@ -64,6 +64,7 @@ pub(crate) struct Around<'a> {
 }
 
 /// A step on to a frame, where there is a step.
+#[inline(always)]
 fn after_step<'a>(step: Option<Step<'a>>, frame: Frame<'a>) -> Option<Taken<'a>>
     ensures on { (es : Exprs) (st : Stack) → go_on result es st ≡ and_then (option_map (step_on st) step.entry) (finish frame.entry es) }
     ensures kept { (n m p : ℕ) → is_kept frame.entry ≡ true → needs frame.entry ≤ n + p → gives frame.entry ≡ m → IfSome step.entry (IsLeaf p) → IfSome result (KeepsWord n m) }
@@ -75,6 +76,7 @@ fn after_step<'a>(step: Option<Step<'a>>, frame: Frame<'a>) -> Option<Taken<'a>>
 }
 
 /// The text as a term of its own: a bare label, or a name.
+#[inline(always)]
 fn term_step(text: &[u8]) -> Option<Step<'_>>
     ensures leaf { IfSome result (IsLeaf 1) }
     ensures read { (st : Stack) → option_map (step_on st) result ≡ option_map (push_term st) (bare_or_name text.now) }
@@ -97,6 +99,7 @@ fn list_word(form: KidForm) -> Option<Word>
 }
 
 /// The text as a part of a label.
+#[inline(always)]
 fn part_step(part: Part, text: &[u8]) -> Option<Step<'_>>
     requires { is_plain part ≡ true }
     ensures leaf { IfSome result (IsLeaf (kid_count (part ∷ []))) }
@@ -113,6 +116,7 @@ fn part_step(part: Part, text: &[u8]) -> Option<Step<'_>>
 }
 
 /// What a group is as a part of a label.
+#[inline(always)]
 fn part_frame<'a>(part: Part) -> Option<Frame<'a>>
     requires { is_plain part ≡ true }
     ensures read { (inner : Exprs) → Reads part (Group inner) (opened result inner) }
@@ -139,6 +143,7 @@ fn label_start(parts: &[Part]) -> usize
 }
 
 /// What a word makes of a label with so many parts.
+#[inline(always)]
 fn label_word<'a>(word: Word, at: usize, text: &'a [u8]) -> Option<Taken<'a>>
     requires { is_kept (Frame.Label word at) ≡ true }
     ensures read { (es : Exprs) (st : Stack) → finish (Frame.Label word at) (ThenExpr (Single text.entry.now) es) st ≡ go_on result es st }
@@ -149,6 +154,7 @@ fn label_word<'a>(word: Word, at: usize, text: &'a [u8]) -> Option<Taken<'a>>
 }
 
 /// What a group makes of a label with so many parts.
+#[inline(always)]
 fn label_group<'a>(word: Word, at: usize) -> Option<Around<'a>>
     requires { is_kept (Frame.Label word at) ≡ true }
     ensures read { (inner es : Exprs) (st : Stack) → finish (Frame.Label word at) (ThenExpr (Group inner) es) st ≡ enter result inner es st }
@@ -162,6 +168,7 @@ fn label_group<'a>(word: Word, at: usize) -> Option<Around<'a>>
 }
 
 /// What the second word of a group makes of it.
+#[inline(always)]
 fn second_word<'a>(first: &[u8], text: &'a [u8]) -> Option<Taken<'a>>
     ensures read { (es : Exprs) (st : Stack) → option_map (push_term st) (phrase_of (Group (ThenExpr (Single first.now) (ThenExpr (Single text.entry.now) es)))) ≡ go_on result es st }
     ensures kept { IfSome result (KeepsWord 0 1) }
@@ -179,6 +186,7 @@ fn second_word<'a>(first: &[u8], text: &'a [u8]) -> Option<Taken<'a>>
 
 impl<'a> Frame<'a> {
     /// The frame behind a word, if the word may stand there.
+    #[inline(always)]
     pub(crate) fn after_word(self, text: &'a [u8]) -> R<Option<Taken<'a>>>
         requires { is_kept self ≡ true }
         ensures read { IfOk result (λ o. (es : Exprs) (st : Stack) → finish self.entry (ThenExpr (Single text.entry.now) es) st ≡ go_on o es st) }
@@ -229,6 +237,7 @@ impl<'a> Frame<'a> {
     }
 
     /// The frames in and behind a group, if a group may stand there.
+    #[inline(always)]
     pub(crate) fn around(self) -> R<Option<Around<'a>>>
         requires { is_kept self ≡ true }
         ensures read { IfOk result (λ o. (inner es : Exprs) (st : Stack) → finish self.entry (ThenExpr (Group inner) es) st ≡ enter o inner es st) }
@@ -264,6 +273,7 @@ impl<'a> Frame<'a> {
     }
 
     /// What the end of the line or of the group puts on the stacks, if it may end there.
+    #[inline(always)]
     pub(crate) fn end(self) -> Option<Option<Step<'a>>>
         requires { is_kept self ≡ true }
         ensures kept { IfSome result (KeepsEnd (needs self.entry) (gives self.entry)) }

@@ -36,6 +36,7 @@ impl<'a> Reader<'a> {
     }
 
     /// Puts a step last, where there is one.
+    #[inline(always)]
     fn put(&mut self, step: Option<Step<'a>>) -> R<()>
         ensures ample { taken_by step.entry ≤ length (built self.old.steps.items).terms → IfSome step.entry IsKnown → AreAmple (only []) self.old.steps.items → OnOk result (AreAmple (only []) self.new.steps.items) }
         ensures put { OnOk result (built self.new.steps.items ≡ maybe_on step.entry (built self.old.steps.items)) }
@@ -50,6 +51,7 @@ impl<'a> Reader<'a> {
     }
 
     /// Goes over an opening bracket, if one may stand here.
+    #[inline(always)]
     fn open(&mut self) -> R<bool>
         requires { IsOpen self.old }
         ensures read { IfOk result (λ goes. Takes Opens self.old goes self.new) }
@@ -68,6 +70,7 @@ impl<'a> Reader<'a> {
     }
 
     /// Goes over a closing bracket, if one may stand here.
+    #[inline(always)]
     fn close(&mut self) -> R<bool>
         requires { IsOpen self.old }
         ensures read { IfOk result (λ goes. Takes Closes self.old goes self.new) }
@@ -86,6 +89,7 @@ impl<'a> Reader<'a> {
     }
 
     /// Goes over a word, if it may stand here.
+    #[inline(always)]
     fn take_word(&mut self, word: &'a [u8]) -> R<bool>
         requires { IsOpen self.old }
         ensures read { IfOk result (λ goes. Takes (Word word.entry.now) self.old goes self.new) }
@@ -101,6 +105,7 @@ impl<'a> Reader<'a> {
     }
 
     /// Goes over a token, if it may stand here.
+    #[inline(always)]
     fn take(&mut self, token: Token<'a>) -> R<bool>
         requires { IsOpen self.old }
         ensures read { IfOk result (λ goes. Takes (token_seen token.entry) self.old goes self.new) }

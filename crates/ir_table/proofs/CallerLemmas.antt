@@ -5,5 +5,5 @@ pub use Rattle.ir_table.proofs.NewLemmas.{given_live, items_grow, live_sort, new
 pub use Rattle.ir_table.proofs.PartLemmas.{live_binder}
 pub use Rattle.ir_nodes.proofs.RowLemmas.{same_fits}
 pub use Rattle.ir_table.proofs.SortLemmas.{AllFit}
-pub use Rattle.ir_table.proofs.SpellingLemmas.{ok_last, put_both, spaced-after_each}
+pub use Rattle.ir_table.proofs.SpellingLemmas.{known_on, ok_last, on_ok, put_both, spaced-after_each, spelled_later}
 pub use Rattle.ir_table.proofs.StartLemmas.{held_at_start}

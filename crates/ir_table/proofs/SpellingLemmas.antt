@@ -1,11 +1,15 @@
 -- What stands behind a text while a part is spelled, and what remains to be spelled.
-use Rattle.std.proofs.Common.{⊎_elim, ◌≡◌, ◌∙◌, sym, ap, refl, subst, ℕ, suc, ◌+◌, ◌*◌, ◌<◌, ◌≤◌, arith, true, false, nat_eq, List, [], ◌∷◌, ◌++◌, length, drop, map, slice_get, codes, Option, None, Some, Result, OnOk}
-use Rattle.std.proofs.Math.Seq.{take-append_seam}
+use Rattle.std.proofs.Common.{⊎_elim, ◌≡◌, ◌∙◌, sym, ap, refl, subst, ℕ, suc, ◌+◌, ◌*◌, ◌<◌, ◌≤◌, arith, rules, Bool, true, false, cond, nat_eq, List, [], ◌∷◌, ◌++◌, length, length-append, drop, map, slice_get, codes, Option, None, Some, Result, Ok, Err, is_err, OnErr, OnOk}
+use Rattle.std.proofs.Math.Seq.{drop-append_seam, take-append_seam, take-length}
+use Rattle.std.proofs.lemmas.Bool.{false≢true}
 use Rattle.std.proofs.lemmas.Bool.Decides.{nat_tests}
 use Rattle.std.proofs.lemmas.List.{append_assoc, append-nil, drop_all, length-take, take-append-drop, take-append-le}
-use Rattle.std.proofs.lemmas.Option.{none-some, slice_get_cases}
+use Rattle.std.proofs.lemmas.Option.{none-some, same_Some, slice_get_cases}
+use Rattle.std.proofs.lemmas.Slice.{between_is}
+use Rattle.indexmap.specs.IndexMap.{IndexMap, Updates, get}
 use Rattle.std.specs.Option.{option_map}
 use Rattle.ir_core.specs.declared.errors.TermError.{TermError}
+use Rattle.ir_core.specs.contracts.handles.PartPartialEq.TheImpl as part_eq
 use Rattle.ir_core.specs.declared.ids.SolverDefId.{SolverDefId}
 use Rattle.ir_core.specs.declared.handles.BoundVarKinds.{BoundVarKinds}
 use Rattle.ir_core.specs.declared.handles.Part.{Part}
@@ -18,7 +22,7 @@ use Rattle.ir_laws.specs.Label.{row}
 use Rattle.ir_laws.specs.Spelling.{bind_text, bind_texts, in_brackets, label_text, spaced, spell, spell_each}
 use Rattle.ir_laws.specs.Counts.{sort_of_label}
 use Rattle.ir_laws.specs.Same.{same_sort}
-use Rattle.ir_laws.specs.Heap.{Heap, OfNames, Layer, HasNode, Each, IsLive, IsSound, cached_height, forest, kid_heights, kid_names, kinds_among, kinds_at, largest, names_in, shape_over, tree_of, with_binder}
+use Rattle.ir_laws.specs.Heap.{Grows, Heap, OfNames, Layer, HasNode, Each, IsLive, IsSound, cached_height, forest, kid_heights, kid_names, kinds_among, kinds_at, largest, names_in, shape_over, tree_of, with_binder}
 use Rattle.ir_laws.proofs.HeapLemmas.{Each-largest, held_node, kinds_at_node}
 use Rattle.ir_laws.proofs.PlantLemmas.{spell-plant}
 use Rattle.ir_nodes.specs.declared.nodes.Node.{Node}
@@ -30,7 +34,9 @@ use Rattle.ir_nodes.specs.declared.layers.EmptyList.TheVariants as empty
 use Rattle.ir_nodes.specs.Fits.{is_term, layer_sort}
 use Rattle.ir_nodes.specs.Layers.{layer_seen, list_kids, list_seen}
 use Rattle.ir_nodes.specs.Nodes.{binder_in, kids_in, node_layer, variable_seen, variables_layer}
-use Rattle.ir_table.specs.Spelled.{Begins, IsNoList, after, after_each, kid_texts, list_text, node_text, places_text}
+use Rattle.ir_table.specs.declared.spelling.Span.{Span}
+use Rattle.ir_table.specs.declared.spelling.Spellings.{Spellings}
+use Rattle.ir_table.specs.Spelled.{AreSpelled, Begins, IsNoList, IsSpelled, after, after_each, kid_texts, list_text, node_text, places_text}
 use Rattle.ir_nodes.proofs.FitLemmas.{not_list, term_label}
 use Rattle.ir_table.proofs.LoopLemmas.{each_got}
 use Rattle.ir_table.proofs.NodeLemmas.{kinds_of_fields}
@@ -48,9 +54,84 @@ begins_more old mid text a =
 pub begins_trans : (old mid new : Text) → Begins old mid → Begins mid new → Begins old new
 begins_trans old mid new a b = rw (← take-append-drop (length mid) new, b) (begins_more old mid (drop (length mid) new) a)
 
+-- a text that is as it was begins so
+pub begins_same : {T : Type 0} (old new : Text) (r : Result T TermError) (e : TermError) → OnErr r ((new ≡ old) × (r ≡ Err e)) → OnErr r (Begins old new × (r ≡ Err e))
+begins_same old new (Ok x) e same = tt
+begins_same old new (Err d) e same = (subst (Begins old) (sym same.0) (take-length old), same.1)
+
+-- what holds anyway holds on Ok
+pub on_ok : {T : Type 0} {P : Type 0} (r : Result T TermError) → P → OnOk r P
+on_ok (Ok x) p = p
+on_ok (Err e) p = tt
+
+-- what follows on Ok
+pub then_ok : {T : Type 0} {P : Type 0} (Q : Type 0) (r : Result T TermError) → OnOk r P → (P → OnOk r Q) → OnOk r Q
+then_ok Q (Ok x) p f = f p
+then_ok Q (Err e) p f = tt
+
+-- what holds on Ok holds where there is no error
+pub if_ok : {T : Type 0} {P : Type 0} (r : Result T TermError) → is_err r ≡ false → OnOk r P → P
+if_ok (Ok x) none p = p
+if_ok (Err e) none p = absurd (false≢true (sym none))
+
 -- the last text is put behind the middle one
 pub ok_last : {T : Type 0} (out mid new last whole : Text) (r : Result T TermError) → mid ++ last ≡ out ++ whole → OnOk r (new ≡ mid ++ last) → OnOk r (new ≡ out ++ whole)
 ok_last out mid new last whole r e h = subst (λ x. OnOk r (new ≡ x)) e h
+
+-- ---- what is known of spellings
+
+-- one more key has a value
+one_more_kept : {K X S : Type 0} (eq : K → K → Bool) → ((x y : K) → eq x y ≡ true → x ≡ y) → (P : K → X → Type 0) (old new : IndexMap K X S) (x : K) (v : X)
+    → ((y : K) (w : X) → get eq old y ≡ Some w → P y w) → P x v → Updates eq old new x (Some v) → (y : K) (w : X) → get eq new y ≡ Some w → P y w
+one_more_kept eq exact P old new x v known here updates y w at = by (eq x y) refl
+  where
+    by : (b : Bool) → eq x y ≡ b → P y w
+    by true e =
+        let got = ap (λ b. cond b (Some v) (get eq old y)) (sym e) ∙ sym (updates.0 y) ∙ at in
+        subst (λ y. P y w) (exact x y e) (subst (P x) (same_Some v w got) here)
+    by false e = known y w (sym (updates.2 y e) ∙ at)
+
+pub one_more_spelled : (name : SolverDefId → Text) (h : Heap Part) (text : Text) (old new : Spellings) (p : Part) (span : Span) → AreSpelled name h text old → IsSpelled name h text p span → Updates part_eq.ghosts.eq old.spans new.spans p (Some span) → AreSpelled name h text new
+one_more_spelled name h text old new p span known here updates = record { each = one_more_kept part_eq.ghosts.eq (search rules) (IsSpelled name h text) old.spans new.spans p span known.each here updates }
+
+module _ (name : SolverDefId → Text) (h : Heap Part) where
+  -- it stays so behind what is put there
+  pub known_more : (text more : Text) (known : Spellings) → AreSpelled name h text known → AreSpelled name h (text ++ more) known
+  known_more text more known are = record {
+    each = λ p span at.
+        let is = are.each p span at in
+        record {
+          live = is.live;
+          order = is.order;
+          within = omega (arith, is.within, length-append text more);
+          spelled = between_is (text ++ more) span.start span.end ∙ ap (drop span.start) (take-append-le span.end text more is.within) ∙ sym (between_is text span.start span.end) ∙ is.spelled;
+        };
+  }
+
+  -- so it does behind the new text
+  pub known_on : (text more new : Text) (known : Spellings) → new ≡ text ++ more → AreSpelled name h text known → AreSpelled name h new known
+  known_on text more new known is are = subst (λ text. AreSpelled name h text known) (sym is) (known_more text more known are)
+
+  pub known_ok : {T : Type 0} (text more new : Text) (known : Spellings) (r : Result T TermError) → OnOk r (new ≡ text ++ more) → AreSpelled name h text known → OnOk r (AreSpelled name h new known)
+  known_ok text more new known (Ok x) is are = known_on text more new known is are
+  known_ok text more new known (Err e) is are = tt
+
+  -- a part that was put last is spelled there
+  pub spelled_last : (text new : Text) (p : Part) → IsLive h p → new ≡ text ++ spell name (tree_of h p) → IsSpelled name h new p (record { start = length text; end = length new })
+  spelled_last text new p live is = subst (λ new. IsSpelled name h new p (record { start = length text; end = length new })) (sym is) (record {
+    live = live;
+    order = omega (arith, length-append text (spell name (tree_of h p)));
+    within = omega arith;
+    spelled = between_is (text ++ spell name (tree_of h p)) (length text) (length (text ++ spell name (tree_of h p))) ∙ ap (drop (length text)) (take-length (text ++ spell name (tree_of h p))) ∙ drop-append_seam text (spell name (tree_of h p));
+  })
+
+-- what is known of spellings stays so while a heap grows
+pub spelled_later : (name : SolverDefId → Text) (h k : Heap Part) (text : Text) (known : Spellings) → Grows h k → AreSpelled name h text known → AreSpelled name k text known
+spelled_later name h k text known grows are = record {
+  each = λ p span at.
+      let is = are.each p span at in
+      record { live = grows.live p is.live; order = is.order; within = is.within; spelled = is.spelled ∙ ap (spell name) (sym (grows.tree p is.live)) };
+}
 
 -- ---- spaces and brackets
 

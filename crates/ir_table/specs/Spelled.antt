@@ -1,5 +1,8 @@
 -- What is spelled of a part, and behind what.
-use Rattle.std.specs.Prelude.{◌≡◌, false, List, [], ◌∷◌, ◌++◌, map, Option, unwrap_or, length, take, codes}
+use Rattle.std.specs.Prelude.{◌≡◌, ◌≤◌, false, List, [], ◌∷◌, ◌++◌, map, Option, Some, unwrap_or, length, take, codes}
+use Rattle.std.specs.List.{slice_range}
+use Rattle.indexmap.specs.IndexMap.{get}
+use Rattle.ir_core.specs.contracts.handles.PartPartialEq.TheImpl as part_eq
 use Rattle.ir_core.specs.declared.ids.SolverDefId.{SolverDefId}
 use Rattle.ir_core.specs.declared.handles.Part.{Part}
 use Rattle.ir_laws.specs.declared.labels.Part.{Part as LabelPart}
@@ -8,11 +11,24 @@ use Rattle.ir_laws.specs.Tree.{Text, Label}
 use Rattle.ir_laws.specs.Same.{same_sort}
 use Rattle.ir_laws.specs.Counts.{sort_of_label}
 use Rattle.ir_laws.specs.Spelling.{bind_texts, field_text, in_brackets, label_text, part_texts, spell}
-use Rattle.ir_laws.specs.Heap.{Heap, shape_over, tree_of}
+use Rattle.ir_laws.specs.Heap.{Heap, IsLive, shape_over, tree_of}
 use Rattle.ir_nodes.specs.declared.nodes.Node.{Node}
 use Rattle.ir_nodes.specs.declared.layers.List.{List as ListRead}
 use Rattle.ir_nodes.specs.Layers.{list_kids}
 use Rattle.ir_nodes.specs.Nodes.{kids_in, node_layer}
+use Rattle.ir_table.specs.declared.spelling.Span.{Span}
+use Rattle.ir_table.specs.declared.spelling.Spellings.{Spellings}
+
+-- the part is live, and the text spells it at this place
+pub record IsSpelled (name : SolverDefId → Text) (h : Heap Part) (text : Text) (p : Part) (span : Span) : Type 0 where
+  pub live : IsLive h p
+  pub order : span.start ≤ span.end
+  pub within : span.end ≤ length text
+  pub spelled : slice_range text span.start span.end ≡ spell name (tree_of h p)
+
+-- so does each part that is known, at its place
+pub record AreSpelled (name : SolverDefId → Text) (h : Heap Part) (text : Text) (known : Spellings) : Type 0 where
+  pub each : (p : Part) (span : Span) → get part_eq.ghosts.eq known.spans p ≡ Some span → IsSpelled name h text p span
 
 -- an id without a name is spelled `?`
 abbrev pub name_text : (SolverDefId → Option Text) → SolverDefId → Text

@@ -35,7 +35,7 @@ pub use listed::{Listed, variables_are_listed};
 pub use lists::{dummy, inputs, output};
 pub use live::Live;
 pub use names::{Names, NoNames};
-pub use spelling::spell;
+pub use spelling::{Spellings, spell, spell_again};
 use store::Store;
 pub use table::{Key, ListKey, Member, Table};
 

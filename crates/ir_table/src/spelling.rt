@@ -1,26 +1,83 @@
 //! The spelling of a term, by the table of labels.
 ghost use Rattle.ir_core.specs.declared.errors.TermError.TheVariants as error;
-ghost use Rattle.ir_laws.specs.Heap.{Each, IsLive, names_in, tree_of};
+ghost use Rattle.ir_core.specs.declared.handles.Part.{Part as PartSeen};
+ghost use Rattle.ir_core.specs.declared.ids.SolverDefId.{SolverDefId as Id};
+ghost use Rattle.ir_laws.specs.Heap.{Each, Heap, IsLive, names_in, tree_of};
 ghost use Rattle.ir_laws.specs.Spelling.{bind_text, field_text, kind_text, spell as spelling};
+ghost use Rattle.ir_laws.specs.Tree.{Text as TextSeen};
 ghost use Rattle.ir_table.specs.Interner.{heap};
 ghost use Rattle.ir_nodes.specs.Layers.{list_kids};
 ghost use Rattle.ir_nodes.specs.Nodes.{field_seen, node_layer, variable_seen};
 ghost use Rattle.ir_table.specs.Spelled.{
+  AreSpelled,
   Begins,
   IsNoList,
+  IsSpelled,
   list_text,
   name_text,
   node_text,
   places_text,
 };
 ghost use Rattle.ir_nodes.specs.Views.{part_of};
-ghost use Rattle.std.specs.Prelude.{◌≡◌, ◌++◌, codes, Err, OnOk, OnErr, map as mapped};
+ghost use Rattle.std.specs.Prelude.{◌≡◌, ◌++◌, codes, Err, IfSome, OnOk, OnErr, map as mapped};
 
-use crate::{InternList, Interner, Names};
+use crate::{Cached, InternList, Interner, Names};
+use indexmap::IndexMap;
 use ir_core::{AnyTerm, BoundRegionKind, BoundTyKind, BoundVarKind, Part, R, SolverDefId, Text};
 use ir_laws::Part as Place;
 use ir_nodes::{Field, Layer, List, Node, part_of};
 use std::alloc::Global;
+
+// The least size of a part whose spelling is remembered: to spell a smaller one costs less.
+const LARGE: u64 = 8;
+
+/// Where a part is spelled in a text.
+#[derive(Clone, Copy, PartialEq, Eq, Debug)]
+pub(crate) struct Span {
+    pub(crate) start: usize,
+    pub(crate) end: usize,
+}
+
+/// The larger parts that a text spells, each with a place where it stands there, so that none is spelled twice. A part's tree never changes, so this stays so while the text and an interner grow.
+#[derive(Drop)]
+pub struct Spellings {
+    spans: IndexMap<Part, Span>,
+}
+
+impl Spellings {
+    /// No parts, which takes no memory.
+    pub fn new(alloc: Global) -> Spellings
+        ensures { (name : Id → TextSeen) (h : Heap PartSeen) (text : TextSeen) → AreSpelled name h text result }
+    {
+        Spellings {
+            spans: IndexMap::new(alloc),
+        }
+    }
+
+    // Where the part is spelled, if it is known.
+    fn find(&self, cx: &Interner, part: Part) -> Option<Span>
+        requires { IsLive (heap cx.now) part }
+        ensures { (name : Id → TextSeen) (h : Heap PartSeen) (text : TextSeen) → AreSpelled name h text self.now → IfSome result (IsSpelled name h text part) }
+    {
+        if part.size(cx) < LARGE {
+            return None;
+        }
+        self.spans.get(&part).copied()
+    }
+
+    // Remembers where the part is spelled.
+    fn keep(&mut self, cx: &Interner, part: Part, span: Span) -> R<()>
+        requires { IsLive (heap cx.now) part }
+        ensures kept { (name : Id → TextSeen) (h : Heap PartSeen) (text : TextSeen) → AreSpelled name h text self.old → IsSpelled name h text part span → OnOk result (AreSpelled name h text self.new) }
+        ensures err { OnErr result (result ≡ Err error.Memory) }
+    {
+        if part.size(cx) < LARGE {
+            return Ok(());
+        }
+        self.spans.insert(part, span)?;
+        Ok(())
+    }
+}
 
 /// Puts the spelling of the term behind the text, with the items' names; an item without a name is `?`. It is refused only for want of memory, and the text is then as it was.
 pub fn spell<N: Names>(
@@ -34,9 +91,28 @@ pub fn spell<N: Names>(
     ensures ok { OnOk result (out.new ≡ out.old ++ spelling (name_text (N.named names.now)) (tree_of (heap cx.now) (part_of term))) }
     ensures err { OnErr result ((out.new ≡ out.old) × (result ≡ Err error.Memory)) }
 {
+    spell_again(alloc, cx, names, term, &mut Spellings::new(alloc), out)
+}
+
+/// The same, where the text spells some parts already: what of the term is among these is copied. When it is refused none is known any more.
+pub fn spell_again<N: Names>(
+    alloc: Global,
+    cx: &Interner,
+    names: &N,
+    term: AnyTerm,
+    known: &mut Spellings,
+    out: &mut Text,
+) -> R<()>
+    requires live { IsLive (heap cx.now) (part_of term) }
+    requires known { AreSpelled (name_text (N.named names.now)) (heap cx.now) out.old known.old }
+    ensures ok { OnOk result (out.new ≡ out.old ++ spelling (name_text (N.named names.now)) (tree_of (heap cx.now) (part_of term))) }
+    ensures known { AreSpelled (name_text (N.named names.now)) (heap cx.now) out.new known.new }
+    ensures err { OnErr result ((out.new ≡ out.old) × (result ≡ Err error.Memory)) }
+{
     let length = out.as_bytes().len();
-    let answer = spell_part(alloc, cx, names, part_of(term), out);
+    let answer = spell_part(alloc, cx, names, part_of(term), known, out);
     if answer.is_err() {
+        *known = Spellings::new(alloc);
         out.truncate(length);
     }
     answer
@@ -49,16 +125,25 @@ fn spell_part<N: Names>(
     cx: &Interner,
     names: &N,
     part: Part,
+    known: &mut Spellings,
     out: &mut Text,
 ) -> R<()>
-    requires { IsLive (heap cx.now) part }
+    requires live { IsLive (heap cx.now) part }
+    requires known { AreSpelled (name_text (N.named names.now)) (heap cx.now) out.old known.old }
     ensures ok { OnOk result (out.new ≡ out.old ++ spelling (name_text (N.named names.now)) (tree_of (heap cx.now) part)) }
+    ensures known { OnOk result (AreSpelled (name_text (N.named names.now)) (heap cx.now) out.new known.new) }
     ensures err { OnErr result (Begins out.old out.new × (result ≡ Err error.Memory)) }
 {
-    match cx.layer(part) {
-        Layer::Node(node) => spell_node(alloc, cx, names, node, out),
-        Layer::List(list) => spell_list(alloc, cx, names, list, out),
+    if let Some(span) = known.find(cx, part) {
+        return out.append_within(span.start, span.end);
     }
+    let start = out.as_bytes().len();
+    match cx.layer(part) {
+        Layer::Node(node) => spell_node(alloc, cx, names, node, known, out)?,
+        Layer::List(list) => spell_list(alloc, cx, names, list, known, out)?,
+    }
+    let end = out.as_bytes().len();
+    known.keep(cx, part, Span { start, end })
 }
 
 // A node that is no list: a bare word, or the word and its places in brackets.
@@ -68,11 +153,14 @@ fn spell_node<N: Names>(
     cx: &Interner,
     names: &N,
     node: &Node,
+    known: &mut Spellings,
     out: &mut Text,
 ) -> R<()>
     requires live { Each (IsLive (heap cx.now)) (names_in (node_layer node.now)) }
     requires no_list { IsNoList (node_layer node.now).label }
+    requires known { AreSpelled (name_text (N.named names.now)) (heap cx.now) out.old known.old }
     ensures ok { OnOk result (out.new ≡ out.old ++ node_text (name_text (N.named names.now)) (heap cx.now) node.now) }
+    ensures known { OnOk result (AreSpelled (name_text (N.named names.now)) (heap cx.now) out.new known.new) }
     ensures err { OnErr result (Begins out.old out.new × (result ≡ Err error.Memory)) }
 {
     let word = node.word.text();
@@ -81,7 +169,7 @@ fn spell_node<N: Names>(
         return out.append(word);
     }
     append_both(out, b"(", word)?;
-    spell_places(alloc, cx, names, places, node, out)?;
+    spell_places(alloc, cx, names, places, node, known, out)?;
     out.append(b")")
 }
 
@@ -93,10 +181,13 @@ fn spell_places<N: Names>(
     names: &N,
     places: &[Place],
     node: &Node,
+    known: &mut Spellings,
     out: &mut Text,
 ) -> R<()>
-    requires { Each (IsLive (heap cx.now)) (names_in (node_layer node.now)) }
+    requires live { Each (IsLive (heap cx.now)) (names_in (node_layer node.now)) }
+    requires known { AreSpelled (name_text (N.named names.now)) (heap cx.now) out.old known.old }
     ensures ok { OnOk result (out.new ≡ out.old ++ places_text (name_text (N.named names.now)) (heap cx.now) places.now node.now) }
+    ensures known { OnOk result (AreSpelled (name_text (N.named names.now)) (heap cx.now) out.new known.new) }
     ensures err { OnErr result (Begins out.old out.new × (result ≡ Err error.Memory)) }
 {
     let mut fields = 0;
@@ -121,7 +212,7 @@ fn spell_places<N: Names>(
                     return Ok(());
                 };
                 out.append(b" ")?;
-                spell_part(alloc, cx, names, kid, out)?;
+                spell_part(alloc, cx, names, kid, known, out)?;
                 kids += 1;
             }
         }
@@ -136,17 +227,20 @@ fn spell_list<N: Names>(
     cx: &Interner,
     names: &N,
     list: List<'_>,
+    known: &mut Spellings,
     out: &mut Text,
 ) -> R<()>
-    requires { Each (IsLive (heap cx.now)) (list_kids list) }
+    requires live { Each (IsLive (heap cx.now)) (list_kids list) }
+    requires known { AreSpelled (name_text (N.named names.now)) (heap cx.now) out.old known.old }
     ensures ok { OnOk result (out.new ≡ out.old ++ list_text (name_text (N.named names.now)) (heap cx.now) list.entry) }
+    ensures known { OnOk result (AreSpelled (name_text (N.named names.now)) (heap cx.now) out.new known.new) }
     ensures err { OnErr result (Begins out.old out.new × (result ≡ Err error.Memory)) }
 {
     out.append(b"(")?;
     let mut space: &[u8] = b"";
     for index in 0..list.kid_count() {
         out.append(space)?;
-        spell_part(alloc, cx, names, list.kid(index), out)?;
+        spell_part(alloc, cx, names, list.kid(index), known, out)?;
         space = b" ";
     }
     out.append(b")")

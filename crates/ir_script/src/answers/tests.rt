@@ -47,8 +47,18 @@ fn fault(alloc: Global, script: &[u8]) -> Option<Fault> {
 
 #[test]
 fn scripts_are_answered(rt: HostRuntime) {
-    let rows: [(&[u8], &[u8]); 16] = [
+    let rows: [(&[u8], &[u8]); 18] = [
         (b"", b""),
+        // What was spelled before is spelled again, within a line and on a later one, also where lines stand between that put other text.
+        (
+            b"let A (tuple (u8 bool u8 bool u8 bool))\nprint (tuple (A (tuple (A)) A))\nsame A u8\nprint A\nflags A\nprint (tuple (A))",
+            b"(tuple ((tuple (u8 bool u8 bool u8 bool)) (tuple ((tuple (u8 bool u8 bool u8 bool)))) (tuple (u8 bool u8 bool u8 bool))))\nno\n(tuple (u8 bool u8 bool u8 bool))\nouter 0\n(tuple ((tuple (u8 bool u8 bool u8 bool))))\n",
+        ),
+        // Each word alone keeps its own part: these are all that a script can write so far.
+        (
+            b"print (tuple (bool u8 (ref not static u8) (ref mut erased bool)))\nprint (ref not erased u8)\nprint (ref not static bool)",
+            b"(tuple (bool u8 (ref not static u8) (ref mut erased bool)))\n(ref not erased u8)\n(ref not static bool)\n",
+        ),
         (b"\n \n\n", b""),
         (b"print (ref not static u8)", b"(ref not static u8)\n"),
         (b"print static\nprint erased\n", b"static\nerased\n"),

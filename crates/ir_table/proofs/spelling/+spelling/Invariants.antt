@@ -4,7 +4,7 @@ use Rattle.ir_laws.specs.Spelling.{bind_texts, field_text, part_texts}
 use Rattle.ir_table.specs.Interner.{heap}
 use Rattle.ir_nodes.specs.Layers.{list_kids}
 use Rattle.ir_nodes.specs.Nodes.{field_seen, fields_in, kids_in, node_layer}
-use Rattle.ir_table.specs.Spelled.{Begins, after, after_each, kid_texts, list_text, name_text, places_text}
+use Rattle.ir_table.specs.Spelled.{AreSpelled, Begins, after, after_each, kid_texts, list_text, name_text, places_text}
 use Rattle.ir_table.proofs.spelling.+spelling.Given as goal
 
 abbrev pub decreases-spell_part : goal.decreases-spell_part
@@ -24,6 +24,7 @@ invariant-spell_places-loop-place g l = record {
   whole : l.out ++ after_each (part_texts (drop l.place-index l.places) (drop l.fields (map (field_text (name_text (g.N.Names.named l.names))) (map field_seen (fields_in l.node.content)))) (bind_texts (name_text (g.N.Names.named l.names)) (shape_over (heap l.cx) (node_layer l.node)).bind) (drop l.kids (kid_texts (name_text (g.N.Names.named l.names)) (heap l.cx) (kids_in l.node.content))))
       ≡ l.fn.out ++ places_text (name_text (g.N.Names.named l.names)) (heap l.cx) l.places l.node;
   begins : Begins l.fn.out l.out;
+  known : AreSpelled (name_text (g.N.Names.named l.names)) (heap l.cx) l.out l.known;
   few_fields : l.fields ≤ l.place-index;
   few_kids : l.kids ≤ l.place-index;
 }
@@ -33,4 +34,5 @@ invariant-spell_list-loop-index g l = record {
   whole : (l.out ++ after l.space (drop l.index (kid_texts (name_text (g.N.Names.named l.names)) (heap l.cx) (list_kids l.list)))) ++ codes ")"
       ≡ l.fn.out ++ list_text (name_text (g.N.Names.named l.names)) (heap l.cx) l.list;
   begins : Begins l.fn.out l.out;
+  known : AreSpelled (name_text (g.N.Names.named l.names)) (heap l.cx) l.out l.known;
 }

@@ -1,8 +1,10 @@
-use Rattle.std.proofs.Common.{◌∙◌, Err, ap, length, refl}
+use Rattle.std.proofs.Common.{◌∙◌, Err, None, ap, length, refl}
 use Rattle.std.proofs.lemmas.Result.{err_from_is_err_and}
 use Rattle.ir_laws.specs.Cause.{Duplicate}
 use Rattle.ir_laws.specs.Names.{if_so}
 use Rattle.ir_table.specs.Interner.{heap, state}
+use Rattle.ir_table.specs.Spelled.{name_text}
+use Rattle.ir_table.proofs.CallerLemmas.{spelled_later}
 use Rattle.ir_script.specs.Scope.{scope_names}
 use Rattle.ir_script.proofs.FormLemmas.{asked_count_is, asked_operands, asked_terms, line_written, own_met, terms_met}
 use Rattle.ir_script.proofs.answers.Run.answer_line.Goals as goal
@@ -23,6 +25,9 @@ returns-in_err-make-clause-answers c held just =
 
 pub write-requires-clause-count : goal.write-requires-clause-count
 write-requires-clause-count c = ap length c.parts.ensures ∙ c.in_ok-make.ensures.stand.count ∙ asked_count_is (asked_terms c.in_ok-asked.ensures.read c.in-Some.is c.deref.ensures.value)
+
+pub write-requires-clause-known : goal.write-requires-clause-known
+write-requires-clause-known c = spelled_later (name_text (λ id. None)) (heap c.args.self.now.cx) (heap c.make.new.cx) c.args.self.now.text c.args.self.now.spellings c.in_ok-make.ensures.stand.grows c.requires.ready.known
 
 pub returns-clause-answers : goal.returns-clause-answers
 returns-clause-answers c held just =

@@ -13,20 +13,20 @@ types-requires-clause-types c =
     let at : c.saturating_sub-at.result ≡ length c.args.self.now.parts.items - c.args.count = first_of (search rules, grind arith) in
     members_types _ c.requires.grove _ c.args.count c.requires.grown _ (slice_top _ _ c.args.count _ c.deref.ensures.value at) c.requires.fits
 
-pub returns-in_err-list : goal.returns-in_err-list
-returns-in_err-list c = λ h g grows grown fits.
+pub returns-in_err-list-clause-takes : goal.returns-in_err-list-clause-takes
+returns-in_err-list-clause-takes c = λ h g grows grown fits.
     let from = err_from_is_err_and c.from_residual.result c.from_residual.ensures.1 in
     let at : c.saturating_sub-at.result ≡ length c.args.self.now.parts.items - c.args.count = first_of (search rules, grind arith) in
     takes_err h g _ _ _ _ _ _ _ refl (from.1 ∙ ap Err from.2) (list_makes _ g _ c.args.count grown _ (slice_top _ _ c.args.count _ c.deref.ensures.value at) _ _ refl c.args.cx.now.store.counted _ c.in_err-list.ensures.answers)
 
-pub returns-in_err-push : goal.returns-in_err-push
-returns-in_err-push c = λ h g grows grown fits.
+pub returns-in_err-push-clause-takes : goal.returns-in_err-push-clause-takes
+returns-in_err-push-clause-takes c = λ h g grows grown fits.
     let from = err_from_is_err_and c.from_residual-in_err-push.result c.from_residual-in_err-push.ensures.1 in
     let at : c.saturating_sub-at.result ≡ length c.args.self.now.parts.items - c.args.count = first_of (search rules, grind arith) in
     takes_late h g _ _ _ _ _ _ _ _ refl from.1 from.2 (list_makes _ g _ c.args.count grown _ (slice_top _ _ c.args.count _ c.deref.ensures.value at) _ _ refl c.args.cx.now.store.counted _ c.in_ok-list.ensures.answers)
 
-pub returns : goal.returns
-returns c = λ h g grows grown fits.
+pub returns-clause-takes : goal.returns-clause-takes
+returns-clause-takes c = λ h g grows grown fits.
     let at : c.saturating_sub-at.result ≡ length c.args.self.now.parts.items - c.args.count = first_of (search rules, grind arith) in
     let taken = slice_top _ _ c.args.count _ c.deref.ensures.value at in
     takes_ok h g _ _ _ _ _ _ refl (list_makes _ g _ c.args.count grown _ taken _ _ refl c.args.cx.now.store.counted _ c.in_ok-list.ensures.answers)

@@ -12,8 +12,8 @@ returns-in_err-fit-clause-makes c held just =
     let from = err_from_is_err_and c.from_residual.result c.from_residual.ensures.1 in
     terms_unfit (c.in_err-fit.ensures.fits _ c.requires.terms) (from.1 ∙ ap Err from.2)
 
-pub build-requires : goal.build-requires
-build-requires c = (grow (state c.args.cx.now) c.requires.terms c.requires.operands (c.in_ok-fit.ensures.fits _ c.requires.terms) c.deref.ensures.value).fits
+pub build-requires-clause-fit : goal.build-requires-clause-fit
+build-requires-clause-fit c = (grow (state c.args.cx.now) c.requires.terms c.requires.operands (c.in_ok-fit.ensures.fits _ c.requires.terms) c.deref.ensures.value).fits
 
 pub returns-in_err-build-clause-makes : goal.returns-in_err-build-clause-makes
 returns-in_err-build-clause-makes c held just =
@@ -38,7 +38,7 @@ pub all_are_listed-requires-clause-listed : goal.all_are_listed-requires-clause-
 all_are_listed-requires-clause-listed c =
     let fits = c.in_ok-fit.ensures.fits (heap c.args.cx.now) c.requires.terms in
     let b = made_by (state c.args.cx.now) c.requires.terms c.requires.operands fits c.deref.ensures.value c.in_ok-build.ensures.makes c.in_ok-build.ensures.built in
-    listed_later (heap c.args.cx.now) (heap c.build.new.cx) c.fit.new.self.listed b.makes.grows (subst (AreListed (heap c.args.cx.now)) (sym c.in_ok-fit.ensures.listed) c.requires.listed)
+    listed_later (heap c.args.cx.now) (heap c.build.new.cx) c.fit.new.self.listed b.makes.grows (subst (AreListed (heap c.args.cx.now)) (sym c.in_ok-fit.ensures.listed) c.requires.kept.listed)
 
 pub returns-in_err-all_are_listed-clause-stand : goal.returns-in_err-all_are_listed-clause-stand
 returns-in_err-all_are_listed-clause-stand c =
@@ -69,3 +69,6 @@ returns-clause-stand c =
     let fits = c.in_ok-fit.ensures.fits (heap c.args.cx.now) c.requires.terms in
     let b = made_by (state c.args.cx.now) c.requires.terms c.requires.operands fits c.deref.ensures.value c.in_ok-build.ensures.makes c.in_ok-build.ensures.built in
     stand_made _ _ _ c.build.new.cx c.requires.terms b
+
+pub build-requires-clause-leaves : goal.build-requires-clause-leaves
+build-requires-clause-leaves c = rw c.in_ok-fit.ensures.builder c.requires.kept.leaves
