@@ -1,5 +1,5 @@
 -- What each command is over its terms, and what a line answers by its stages.
-use Rattle.std.proofs.Common.{◌≡◌, ◌∙◌, suc, Bool, true, false, bytes_eq, codes, cond, nat_le, find, List, [], ◌∷◌, ◌++◌, length, map, Option, Some, None, Result, Ok, Err, refl, sym, ap, subst, inl, inr, ⊎_elim, arith}
+use Rattle.std.proofs.Common.{◌≡◌, ◌∙◌, ◌⊎◌, suc, Bool, true, false, bytes_eq, codes, cond, nat_le, find, List, [], ◌∷◌, ◌++◌, length, map, Option, Some, None, Result, Ok, Err, refl, sym, ap, subst, inl, inr, ⊎_elim, arith}
 use Rattle.std.specs.Prelude.{IfSome, IsSome}
 use Rattle.std.proofs.lemmas.Bool.{and_from}
 use Rattle.std.proofs.lemmas.Bool.Decides.{nat_tests}
@@ -8,6 +8,7 @@ use Rattle.std.proofs.Math.Bool.{and-true}
 use Rattle.std.specs.List.{list_all}
 use Rattle.std.specs.Option.{option_map}
 use Rattle.ir_core.specs.declared.handles.Part.{Part}
+use Rattle.ir_laws.specs.Answer as answer
 use Rattle.ir_laws.specs.Answer.{yes_or_no, resolved, text_of_line, after_line, with_end}
 use Rattle.ir_laws.specs.Cause as cause
 use Rattle.ir_laws.specs.Cause.{is_cause_among}
@@ -37,8 +38,10 @@ use Rattle.ir_script.specs.declared.causes.Cause.TheVariants as fault
 use Rattle.ir_syntax.specs.declared.commands.Asked.{Asked}
 use Rattle.ir_syntax.specs.declared.commands.Asked.TheVariants as code
 use Rattle.ir_script.specs.Answered.{AnswersForm, WritesLine, YesOrNo, causes_met, left_by}
-use Rattle.ir_syntax.specs.Commands.{HasTerms, IsAsked, asked_count, asked_form, own_causes, wants_one_sort}
-use Rattle.ir_script.specs.Causes.{Says, no_names}
+use Rattle.ir_syntax.specs.Commands.{HasTerms, asked_count, asked_form, own_causes, wants_one_sort}
+use Rattle.ir_syntax.specs.declared.errors.ReadError.{ReadError}
+use Rattle.ir_syntax.specs.declared.errors.ReadError.TheVariants as read
+use Rattle.ir_script.specs.Causes.{Says, cause_seen, no_names, read_cause}
 use Rattle.ir_script.specs.Operands.{operand_unknowns}
 use Rattle.ir_script.specs.Scope.{Named, IsTerm, env_of}
 use Rattle.ir_script.specs.Staged.{AreOperands, MakesTerms, operand_causes, operand_sorts, operand_trees}
@@ -169,10 +172,21 @@ asked_operands line has = record {
   formed = ap (list_all is_formed) (sym (found_takes has no_names).terms) ∙ subst MaybeFormed (found has).1 (line_formed line);
 }
 
-pub asked_terms : {form : Option (Form Phrase)} {o : Option Asked} {a : Asked} {steps seen : List Step} → IsAsked form o (built steps) → o ≡ Some a → seen ≡ steps → HasTerms form a (built seen)
-asked_terms {form} {a = a} asked is same = subst (λ steps. HasTerms form a (built steps)) (sym same) (rw is at asked)
-
 -- ---- what it meets and writes
+
+-- a line that is not read has no form, or there is no memory
+pub not_read : (form : Option (Form Phrase)) (e : ReadError) (c : Cause) → c ≡ read_cause e → (e ≡ read.Syntax → form ≡ None) → (c ≡ fault.Memory) ⊎ ((c ≡ fault.Syntax) × (form ≡ None))
+not_read form read.Syntax c is none = inr (is, none refl)
+not_read form read.Memory c is none = inl is
+
+pub unread_met : (limits : Limits) (form : Option (Form Phrase)) (s : answer.State) (text : Text) (now : Heap Part) (names : List Named) (c : Cause) → (c ≡ fault.Memory) ⊎ ((c ≡ fault.Syntax) × (form ≡ None)) → AnswersForm limits form s text text now names (Err c)
+unread_met limits form s text now names c why = record {
+  clear = tt;
+  text = tt;
+  left = tt;
+  names_are = tt;
+  fault = ⊎_elim (λ is. inl (ap cause_seen is)) (λ is. inr (rw (is.0, is.1) refl)) why;
+}
 
 each_count : {A B : Type 0} (f : A → Option B) (xs : List A) (ys : List B) → each_of f xs ≡ Some ys → length ys ≡ length xs
 each_count f [] ys e = let same : [] ≡ ys = cc in ap length (sym same)

@@ -1,5 +1,5 @@
 -- The names of a scope: how they are looked up, and that they keep their terms while a heap grows.
-use Rattle.std.proofs.Common.{◌≡◌, ◌∙◌, ℕ, Bool, true, false, cond, List, [], ◌∷◌, ◌++◌, map, find, bytes_eq, Option, Some, None, is_some, Vec, Global, refl, sym, ap, subst}
+use Rattle.std.proofs.Common.{◌≡◌, ◌∙◌, ℕ, Bool, true, false, cond, List, [], ◌∷◌, ◌++◌, map, find, bytes_eq, Option, Some, None, is_some, Bor, refl, sym, ap, subst}
 use Rattle.std.proofs.lemmas.Bool.Decides.{same_from_decides}
 use Rattle.std.proofs.lemmas.List.{map_push}
 use Rattle.std.proofs.lemmas.Slice.Eq.{bytes_eq-Decides}
@@ -23,14 +23,14 @@ turned a b =
     same_from_decides (bytes_eq a b) (bytes_eq b a) d ((λ h. sym (e.0 h)), (λ h. e.1 (sym h)))
 
 -- a look-up in the entries is one in the names
-pub looked_up : (name : Text) (es : List (Vec ℕ Global × Part)) → lookup (λ k. bytes_eq name k.items) es ≡ part_named (map (λ e. (e.0.items, e.1)) es) name
+pub looked_up : (name : Text) (es : List (Bor Text × Part)) → lookup (λ k. bytes_eq name k.now) es ≡ part_named (map (λ e. (e.0.now, e.1)) es) name
 looked_up name [] = refl
 looked_up name (e ∷ es) =
-    ap (λ b. cond b (Some e.1) (lookup (λ k. bytes_eq name k.items) es)) (turned name e.0.items)
-    ∙ by (bytes_eq e.0.items name) (looked_up name es)
+    ap (λ b. cond b (Some e.1) (lookup (λ k. bytes_eq name k.now) es)) (turned name e.0.now)
+    ∙ by (bytes_eq e.0.now name) (looked_up name es)
   where
-    by : (b : Bool) → lookup (λ k. bytes_eq name k.items) es ≡ part_named (map (λ e. (e.0.items, e.1)) es) name
-        → cond b (Some e.1) (lookup (λ k. bytes_eq name k.items) es) ≡ option_map (λ (n : Named). n.1) (cond b (Some (e.0.items, e.1)) (find (λ (n : Named). bytes_eq n.0 name) (map (λ e. (e.0.items, e.1)) es)))
+    by : (b : Bool) → lookup (λ k. bytes_eq name k.now) es ≡ part_named (map (λ e. (e.0.now, e.1)) es) name
+        → cond b (Some e.1) (lookup (λ k. bytes_eq name k.now) es) ≡ option_map (λ (n : Named). n.1) (cond b (Some (e.0.now, e.1)) (find (λ (n : Named). bytes_eq n.0 name) (map (λ e. (e.0.now, e.1)) es)))
     by true h = refl
     by false h = h
 

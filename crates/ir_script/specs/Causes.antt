@@ -5,6 +5,8 @@ use Rattle.ir_core.specs.declared.errors.TermError.TheVariants as term
 use Rattle.ir_laws.specs.Cause as spec
 use Rattle.ir_laws.specs.Cause.{cause_text, is_cause_among}
 use Rattle.ir_laws.specs.Environment.{Environment}
+use Rattle.ir_syntax.specs.declared.errors.ReadError.{ReadError}
+use Rattle.ir_syntax.specs.declared.errors.ReadError.TheVariants as read
 use Rattle.ir_script.specs.declared.causes.Cause.{Cause}
 use Rattle.ir_script.specs.declared.causes.Cause.TheVariants.{Syntax, Unknown, Duplicate, Sort, EmptyOr, Arity, TooDeep, TooMany, Unlisted, Escapes, MissingVar, TooLarge, Memory}
 
@@ -52,6 +54,11 @@ cause_of term.TooMany = TooMany
 cause_of term.Escapes = Escapes
 cause_of term.MissingVar = MissingVar
 cause_of term.Memory = Memory
+
+-- why it is refused when it is not read
+abbrev pub read_cause : ReadError → Cause
+read_cause read.Syntax = Syntax
+read_cause read.Memory = Memory
 
 -- no name is declared
 abbrev pub no_names : Environment

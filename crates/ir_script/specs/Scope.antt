@@ -18,7 +18,7 @@ Named = Text × Part
 
 -- the names in the order in which they were declared
 abbrev pub scope_names : Scope → List Named
-scope_names s = map (λ e. (e.0.items, e.1)) s.parts.entries
+scope_names s = map (λ e. (e.0.now, e.1)) s.parts.entries
 
 -- the part of the first such name
 abbrev pub part_named : List Named → Text → Option Part

@@ -91,12 +91,12 @@ impl Builder {
     }
 
     // The list of the topmost so many variables.
-    fn bind(&mut self, cx: &mut Interner, count: usize) -> R<()>
+    fn bind(&mut self, cx: &mut Interner, count: u32) -> R<()>
         requires { IsNext (heap cx.old) self.old (resolved.Bind count) }
         ensures takes { TakesStep (state cx.old) (state cx.new) self.old self.new (resolved.Bind count) result }
         ensures leaves { self.new.leaves ≡ self.old.leaves }
     {
-        let at = self.variables.len().saturating_sub(count);
+        let at = self.variables.len().saturating_sub(count as usize);
         let list = BoundVarKinds::new_from_slice(cx, &self.variables[at..])?;
         self.variables.truncate(at);
         self.binders.push(list)?;
@@ -118,12 +118,12 @@ impl Builder {
     }
 
     // The list of the topmost so many parts.
-    fn list(&mut self, cx: &mut Interner, word: Word, count: usize) -> R<()>
+    fn list(&mut self, cx: &mut Interner, word: Word, count: u32) -> R<()>
         requires { IsNext (heap cx.old) self.old (resolved.List word count) }
         ensures takes { TakesStep (state cx.old) (state cx.new) self.old self.new (resolved.List word count) result }
         ensures leaves { self.new.leaves ≡ self.old.leaves }
     {
-        let at = self.parts.len().saturating_sub(count);
+        let at = self.parts.len().saturating_sub(count as usize);
         let list = cx.types(&self.parts[at..])?;
         self.parts.truncate(at);
         self.parts.push(list)?;

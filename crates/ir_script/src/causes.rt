@@ -1,8 +1,9 @@
 //! Why a script is not answered.
 ghost use Rattle.std.specs.Prelude.{◌≡◌};
-ghost use Rattle.ir_script.specs.Causes.{cause_of, name_seen};
+ghost use Rattle.ir_script.specs.Causes.{cause_of, name_seen, read_cause};
 
 use ir_core::TermError;
+use ir_syntax::ReadError;
 
 /// The cause for which a line is refused.
 #[derive(Clone, Copy, PartialEq, Eq, Debug)]
@@ -76,6 +77,17 @@ impl From<TermError> for Cause {
             TermError::Escapes => Cause::Escapes,
             TermError::MissingVar => Cause::MissingVar,
             TermError::Memory => Cause::Memory,
+        }
+    }
+}
+
+impl From<ReadError> for Cause {
+    ghost from_gives = { λ error cause. cause ≡ read_cause error };
+
+    fn from(error: ReadError) -> Cause {
+        match error {
+            ReadError::Syntax => Cause::Syntax,
+            ReadError::Memory => Cause::Memory,
         }
     }
 }

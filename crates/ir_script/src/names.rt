@@ -34,7 +34,7 @@ pub(crate) struct Names {
 }
 
 // The variable of this kind. With a name it is a fault of sorts, since no item is declared, where the name is known.
-fn variable_of(scope: &Scope, kind: &VariableKind<'_>) -> Result<BoundVarKind, Cause>
+fn variable_of(scope: &Scope<'_>, kind: &VariableKind<'_>) -> Result<BoundVarKind, Cause>
     ensures known { OnOk result (field_unknowns (scope_names scope.now) (OfKind (kind_seen kind.now)) ≡ 0) }
     ensures ok { IfOk result (λ v. kind_in no_names (kind_seen kind.now) ≡ Some (variable_seen v)) }
     ensures err { IfErr result (IsFaultOf (field_unknowns (scope_names scope.now) (OfKind (kind_seen kind.now))) (field_names (OfKind (kind_seen kind.now)))) }
@@ -54,7 +54,7 @@ fn variable_of(scope: &Scope, kind: &VariableKind<'_>) -> Result<BoundVarKind, C
 }
 
 // The field as the interner has it.
-fn field_of(scope: &Scope, field: &Field<'_>) -> Result<ir_nodes::Field, Cause>
+fn field_of(scope: &Scope<'_>, field: &Field<'_>) -> Result<ir_nodes::Field, Cause>
     ensures known { OnOk result (field_unknowns (scope_names scope.now) (field_seen field.now) ≡ 0) }
     ensures ok { IfOk result (λ g. field_meant no_names (field_seen field.now) ≡ Some (table.field_seen g)) }
     ensures err { IfErr result (IsFaultOf (field_unknowns (scope_names scope.now) (field_seen field.now)) (field_names (field_seen field.now))) }
@@ -110,7 +110,11 @@ fn take_fields(sorts: &mut Vec<Option<Sort>>, word: Word) -> Sort
 }
 
 // What the step is, with its names looked up.
-fn next(sorts: &mut Vec<Option<Sort>>, scope: &Scope, step: &Step<'_>) -> Result<Resolved, Cause>
+fn next(
+    sorts: &mut Vec<Option<Sort>>,
+    scope: &Scope<'_>,
+    step: &Step<'_>,
+) -> Result<Resolved, Cause>
     ensures known { OnOk result (step_unknowns (scope_names scope.now) step.now ≡ 0) }
     ensures ok { (h : Heap PartSeen) (st : Stack) → mapped field_sort st.fields ≡ sorts.old.items → IsAmple st step.now → IfOk result (IsResolved (env_of h (scope_names scope.now)) (scope_names scope.now) st step.now) }
     ensures sorts { (st : Stack) → mapped field_sort st.fields ≡ sorts.old.items → OnOk result (mapped field_sort (step_on st step.now).fields ≡ sorts.new.items) }
@@ -147,7 +151,7 @@ impl Names {
     }
 
     /// Looks the names of all steps up. A name that isn't declared comes before a fault of sorts, wherever it stands.
-    pub(crate) fn resolve(&mut self, scope: &Scope, steps: &[Step<'_>]) -> Result<(), Cause>
+    pub(crate) fn resolve(&mut self, scope: &Scope<'_>, steps: &[Step<'_>]) -> Result<(), Cause>
         ensures { (h : Heap PartSeen) (ps : List PhraseSeen) → built steps.now ≡ only ps → AreAmple (only []) steps.now → AnswersNames (env_of h (scope_names scope.now)) (scope_names scope.now) self.new.resolved.items ps result }
     {
         self.sorts.clear();

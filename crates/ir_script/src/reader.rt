@@ -21,11 +21,7 @@ pub fn read_line(alloc: Global, line: &[u8]) -> Result<Line<'_>, Cause>
     ensures form { OnOk result (IsSome (form_of line.now)) }
     ensures refusal { IfErr result (λ c. (c ≡ Cause.Memory) ⊎ ((c ≡ Cause.Syntax) × (form_of line.now ≡ None))) }
 {
-    let Some(parts) = expressions(alloc, line)? else {
-        return Err(Cause::Syntax);
-    };
-    if Reader::new(alloc).read_line(line)?.is_none() {
-        return Err(Cause::Syntax);
-    }
+    let parts = expressions(alloc, line)?;
+    Reader::new(alloc).read_line(line)?;
     Ok(Line { parts })
 }

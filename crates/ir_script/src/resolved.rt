@@ -10,7 +10,7 @@ pub(crate) enum Resolved {
     Term(Part),
     Field(Field),
     Variable(BoundVarKind),
-    Bind(usize),
+    Bind(u32),
     Label(Word, Sort),
-    List(Word, usize),
+    List(Word, u32),
 }

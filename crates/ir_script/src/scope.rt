@@ -7,13 +7,13 @@ use indexmap::IndexMap;
 use ir_core::{Part, R, TermError};
 use std::alloc::Global;
 
-/// Names in the order in which they were declared, each with the part of its term.
+/// Names in the order in which they were declared, each with the part of its term. A name is a slice of the script.
 #[derive(Drop)]
-pub(crate) struct Scope {
-    parts: IndexMap<Vec<u8>, Part>,
+pub(crate) struct Scope<'a> {
+    parts: IndexMap<&'a [u8], Part>,
 }
 
-impl Scope {
+impl<'a> Scope<'a> {
     /// No names, which takes no memory.
     pub(crate) fn new(alloc: Global) -> Self
         ensures { scope_names result ≡ [] }
@@ -31,13 +31,12 @@ impl Scope {
     }
 
     /// Lets a new name stand for the part. It is refused only for want of memory, and the names are then as they were.
-    pub(crate) fn declare(&mut self, alloc: Global, name: &[u8], part: Part) -> R<()>
+    pub(crate) fn declare(&mut self, name: &'a [u8], part: Part) -> R<()>
         requires { part_named (scope_names self.old) name.now ≡ None }
         ensures ok { OnOk result (scope_names self.new ≡ scope_names self.old ++ (name.now, part) ∷ []) }
         ensures err { OnErr result ((scope_names self.new ≡ scope_names self.old) × (result ≡ Err Memory)) }
     {
-        let key = Vec::from_slice(alloc, name)?;
-        let Ok(_) = self.parts.insert(key, part) else {
+        let Ok(_) = self.parts.insert(name, part) else {
             return Err(TermError::Memory);
         };
         Ok(())

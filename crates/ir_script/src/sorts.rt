@@ -180,7 +180,7 @@ fn kids_made(step: &Resolved) -> Option<(Word, usize)>
 {
     match step {
         Resolved::Label(word, _) => Some((*word, kid_count(word.parts()))),
-        Resolved::List(word, count) => Some((*word, *count)),
+        Resolved::List(word, count) => Some((*word, *count as usize)),
         Resolved::Term(_) | Resolved::Field(_) | Resolved::Variable(_) | Resolved::Bind(_) => None,
     }
 }

@@ -24,6 +24,9 @@ use ir_syntax::Step;
 use ir_table::{Interner, Listed, variables_are_listed};
 use std::alloc::Global;
 
+// More steps than a line of a usual length has.
+const MANY_STEPS: usize = 1 << 16;
+
 /// What the stages keep from line to line, so that a line takes no memory of its own.
 #[derive(Drop)]
 pub(crate) struct Stages {
@@ -49,6 +52,13 @@ fn all_are_listed(alloc: Global, cx: &Interner, parts: &[Part], listed: &mut Lis
     Ok(true)
 }
 
+/// Gives the memory of steps back that are no longer needed, where it is much: the same steps are there resolved, and what is made of them takes as much again.
+fn give_back(alloc: Global, steps: &mut Vec<Step<'_>>) {
+    if steps.len() > MANY_STEPS {
+        *steps = Vec::new(alloc);
+    }
+}
+
 impl Stages {
     /// Stages that have seen no line, which takes no memory.
     pub(crate) fn new(alloc: Global) -> Stages
@@ -70,7 +80,7 @@ impl Stages {
     }
 
     /// The stages of names and sorts. Terms that are to be alike are to have one sort.
-    fn fit(&mut self, scope: &Scope, steps: &[Step<'_>], alike: bool) -> Result<(), Cause>
+    fn fit(&mut self, scope: &Scope<'_>, steps: &[Step<'_>], alike: bool) -> Result<(), Cause>
         requires operands { AreOperands (built steps.now) }
         requires ample { AreAmple (only []) steps.now }
         ensures fits { (h : Heap PartSeen) → AreTerms h (scope_names scope.now) → FitOperands (env_of h (scope_names scope.now)) (scope_names scope.now) alike self.new.names.resolved.items (built steps.now).terms result }
@@ -85,24 +95,25 @@ impl Stages {
         Ok(())
     }
 
-    /// Makes the terms that the steps build, unless a stage meets a cause. Their parts are then those of `parts`.
+    /// Makes the terms that the steps build, unless a stage meets a cause. Their parts are then those of `parts`. The steps are of no use then.
     pub(crate) fn make(
         &mut self,
         alloc: Global,
         cx: &mut Interner,
-        scope: &Scope,
-        steps: &[Step<'_>],
+        scope: &Scope<'_>,
+        steps: &mut Vec<Step<'_>>,
         alike: bool,
     ) -> Result<(), Cause>
-        requires operands { AreOperands (built steps.now) }
-        requires ample { AreAmple (only []) steps.now }
+        requires operands { AreOperands (built steps.old.items) }
+        requires ample { AreAmple (only []) steps.old.items }
         requires terms { AreTerms (heap cx.old) (scope_names scope.now) }
         requires kept { IsKept (heap cx.old) self.old }
-        ensures makes { (held : List Term) → HoldsJust (heap cx.old) held → MakesTerms alike (built steps.now).terms (scope_names scope.now) held (state cx.old) (state cx.new) self.new.builder.parts.items result }
-        ensures stand { StandTerms (scope_names scope.now) (built steps.now).terms (state cx.old) (state cx.new) self.new.builder.parts.items result }
+        ensures makes { (held : List Term) → HoldsJust (heap cx.old) held → MakesTerms alike (built steps.old.items).terms (scope_names scope.now) held (state cx.old) (state cx.new) self.new.builder.parts.items result }
+        ensures stand { StandTerms (scope_names scope.now) (built steps.old.items).terms (state cx.old) (state cx.new) self.new.builder.parts.items result }
         ensures kept { OnOk result (IsKept (heap cx.new) self.new) }
     {
         self.fit(scope, steps, alike)?;
+        give_back(alloc, steps);
         self.builder.build(cx, &self.names.resolved)?;
         if !all_are_listed(alloc, cx, &self.builder.parts, &mut self.listed)? {
             return Err(Cause::Unlisted);

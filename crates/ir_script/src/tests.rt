@@ -4,24 +4,23 @@ use crate::names::Names;
 use crate::resolved::Resolved;
 use crate::scope::Scope;
 use crate::sorts::misfit;
-use ir_core::R;
 use ir_laws::{Sort, Word};
-use ir_syntax::{Asked, Reader, Step};
+use ir_syntax::{Asked, ReadError, Reader, Step};
 use std::alloc::Global;
 use std::test::Fail;
 
 /// What the line asks for, as a letter: `-` it has no form, `b` blank, `l` let, `p` print, `s` same, `f` flags.
-fn letter(alloc: Global, line: &[u8]) -> R<u8> {
+fn letter(alloc: Global, line: &[u8]) -> Result<u8, ReadError> {
     let mut reader = Reader::new(alloc);
-    let asked = reader.read_line(line)?;
-    Ok(match asked {
-        None => b'-',
-        Some(Asked::Blank) => b'b',
-        Some(Asked::Let(_)) => b'l',
-        Some(Asked::Print) => b'p',
-        Some(Asked::Same) => b's',
-        Some(Asked::Flags) => b'f',
-    })
+    match reader.read_line(line) {
+        Err(ReadError::Syntax) => Ok(b'-'),
+        Err(error) => Err(error),
+        Ok(Asked::Blank) => Ok(b'b'),
+        Ok(Asked::Let(_)) => Ok(b'l'),
+        Ok(Asked::Print) => Ok(b'p'),
+        Ok(Asked::Same) => Ok(b's'),
+        Ok(Asked::Flags) => Ok(b'f'),
+    }
 }
 
 #[test]
@@ -55,10 +54,12 @@ fn lines_have_their_forms(rt: HostRuntime) -> Result<(), Fail> {
 }
 
 /// How many fields, bound variables and terms the line's steps build; without a group it binds 9. Nothing where the line has no form.
-fn counts(alloc: Global, line: &[u8]) -> R<Option<(usize, usize, usize)>> {
+fn counts(alloc: Global, line: &[u8]) -> Result<Option<(usize, usize, usize)>, ReadError> {
     let mut reader = Reader::new(alloc);
-    if reader.read_line(line)?.is_none() {
-        return Ok(None);
+    match reader.read_line(line) {
+        Ok(_) => {}
+        Err(ReadError::Syntax) => return Ok(None),
+        Err(error) => return Err(error),
     }
     let mut fields: usize = 0;
     let mut bound: usize = 9;
@@ -67,7 +68,7 @@ fn counts(alloc: Global, line: &[u8]) -> R<Option<(usize, usize, usize)>> {
         match step {
             Step::Field(_) => fields = fields.saturating_add(1),
             Step::Variable(_) => {}
-            Step::Bind(count) => bound = *count,
+            Step::Bind(count) => bound = *count as usize,
             Step::Name(_) | Step::Label(_) | Step::List(_, _) => terms = terms.saturating_add(1),
         }
     }
@@ -104,18 +105,15 @@ fn terms_have_fields_a_group_and_kids(rt: HostRuntime) -> Result<(), Fail> {
 }
 
 /// What the stages of names and sorts find in the line's terms where no name is declared.
-fn found(alloc: Global, line: &[u8]) -> R<Option<Cause>> {
+fn found(alloc: Global, line: &[u8]) -> Result<(), Cause> {
     let scope = Scope::new(alloc);
     let mut reader = Reader::new(alloc);
-    if reader.read_line(line)?.is_none() {
-        return Ok(Some(Cause::Syntax));
-    }
+    reader.read_line(line)?;
     let mut names = Names::new(alloc);
-    if let Err(cause) = names.resolve(&scope, &reader.steps) {
-        return Ok(Some(cause));
-    }
+    names.resolve(&scope, &reader.steps)?;
     let mut pending = Vec::new(alloc);
-    Ok(misfit(&mut pending, &names.resolved).err())
+    misfit(&mut pending, &names.resolved)?;
+    Ok(())
 }
 
 #[test]
@@ -146,7 +144,7 @@ fn names_and_places_are_looked_at(rt: HostRuntime) -> Result<(), Fail> {
         ),
     ];
     for (line, want) in rows {
-        assert_eq!(rt; found(rt.alloc(), line)?, want);
+        assert_eq!(rt; found(rt.alloc(), line).err(), want);
     }
     Ok(())
 }

@@ -7,7 +7,7 @@ use Rattle.ir_laws.specs.Expression.{Expr, Exprs, Single, NoExpr, ThenExpr, Toke
 use Rattle.ir_laws.specs.Form.{Form, Let, form_begun, form_of, form_of_exprs, let_form, one_term, two_terms}
 use Rattle.ir_laws.specs.Numeral.{name_of}
 use Rattle.ir_laws.specs.Phrase.{Phrase, and_then, cons_if, phrase_of}
-use Rattle.ir_syntax.specs.Commands.{IsAsked, IsTerms, asked_form, commands, form_row, term_count, terms_of, whole}
+use Rattle.ir_syntax.specs.Commands.{HasTerms, IsTerms, asked_form, commands, form_row, term_count, terms_of, whole}
 use Rattle.ir_syntax.specs.Frames.{terms_in}
 use Rattle.ir_syntax.specs.Reading.{if_goes}
 use Rattle.ir_syntax.specs.Steps.{Stack, only}
@@ -76,16 +76,13 @@ word-first w ts f = ap (λ o. and_then o f) (whole-word w ts) ∙ by (whole ts)
     by : (o : Option Exprs) → and_then (option_map (ThenExpr (Single w)) o) f ≡ and_then o (λ es. f (ThenExpr (Single w) es))
     by o = grind (arith, common_steps)
 
-let-named : (text name : Text) → Some name ≡ name_of text → (es : Exprs) → let_form (Single text ∷ expr_list es) ≡ one_term (Let name) (expr_list es)
-let-named text name is es = grind (arith, common_steps)
-
--- the line of `let`, behind its name
-pub let-asked : (k : Command) (n : ℕ) → k ≡ command.Let → n ≡ term_count k → (name text : Bor Text) → Some name.now ≡ name_of text.now → (rest all : List Token) → all ≡ Word text.now ∷ rest
-    → and_then (whole all) (λ es. (form_row k).read (expr_list es)) ≡ and_then (terms_of n rest) (asked_form (asked.Let name))
-let-asked k n same count name text is rest all begins =
-    (λ i. and_then (whole (begins i)) (λ es. (form_row (same i)).read (expr_list es))) ∙ word-first text.now rest (λ es. let_form (expr_list es))
-    ∙ rows (asked_form (asked.Let name)) 1 (λ es. let_form (Single text.now ∷ expr_list es)) (λ es. let-named text.now name.now is es ∙ one-asked (asked_form (asked.Let name)) (Let name.now) (λ p. refl) es) (whole rest)
-    ∙ ap (λ k. and_then (terms_of k rest) (asked_form (asked.Let name))) (sym (count ∙ ap term_count same))
+-- what a command asks that has one word before its one term
+pub word-asked : (a : Asked) (command is : Command) (n : ℕ) → command ≡ is → n ≡ term_count command → term_count is ≡ 1 → (make : Phrase → Form Phrase) → ((p : Phrase) → Some (make p) ≡ asked_form a (p ∷ [])) → (text : Text) → ((es : Exprs) → (form_row is).read (Single text ∷ expr_list es) ≡ one_term make (expr_list es)) → (rest all : List Token) → all ≡ Word text ∷ rest
+    → and_then (whole all) (λ es. (form_row command).read (expr_list es)) ≡ and_then (terms_of n rest) (asked_form a)
+word-asked a command is n same count one make makes text read rest all begins =
+    (λ i. and_then (whole (begins i)) (λ es. (form_row (same i)).read (expr_list es))) ∙ word-first text rest (λ es. (form_row is).read (expr_list es))
+    ∙ rows (asked_form a) 1 (λ es. (form_row is).read (Single text ∷ expr_list es)) (λ es. read es ∙ one-asked (asked_form a) make makes es) (whole rest)
+    ∙ ap (λ m. and_then (terms_of m rest) (asked_form a)) (sym (count ∙ ap term_count same ∙ one))
 
 pub begun-row : (text : Text) (es : List Expr) → form_begun text es ≡ and_then (find (λ c. bytes_eq (form_row c).text text) commands) (λ c. (form_row c).read es)
 begun-row text es = grind (arith, common_steps)
@@ -101,6 +98,16 @@ module _ (line : Text) (readable : are_line_bytes line ≡ true) where
   line-command word rest command begins found =
       line-read ∙ ap (λ ts. and_then (whole ts) (λ es. form_of_exprs (expr_list es))) begins ∙ word-first word rest (λ es. form_of_exprs (expr_list es))
       ∙ (λ i. and_then (whole rest) (λ es. (begun-row word (expr_list es) ∙ ap (λ o. and_then o (λ c. (form_row c).read (expr_list es))) (sym found)) i))
+
+  -- a line that begins with another word
+  pub line-unknown : (word : Text) (rest : List Token) → tokens_of line ≡ Word word ∷ rest → None ≡ find (λ c. bytes_eq (form_row c).text word) commands → form_of line ≡ None
+  line-unknown word rest begins found =
+      line-read ∙ ap (λ ts. and_then (whole ts) (λ es. form_of_exprs (expr_list es))) begins ∙ word-first word rest (λ es. form_of_exprs (expr_list es))
+      ∙ (λ i. and_then (whole rest) (λ es. (begun-row word (expr_list es) ∙ ap (λ o. and_then o (λ c. (form_row c).read (expr_list es))) (sym found)) i)) ∙ by (whole rest)
+    where
+      by : (o : Option Exprs) → and_then {B = Form Phrase} o (λ es. None) ≡ None
+      by None = refl
+      by (Some es) = refl
 
   -- a line that begins with a bracket
   pub line-bracket : (t : token.Token) (rest : List Token) → tokens_of line ≡ token_seen t ∷ rest → ((w : Bor Text) → t ≡ code.Word w → ⊥) → form_of line ≡ None
@@ -134,6 +141,11 @@ terms-count n ts = by (whole ts)
     by : (o : Option Exprs) → IfSome (and_then o (terms_in n)) (λ ps. length ps ≡ n)
     by None = tt
     by (Some es) = each n es
+
+-- what is read of a line of this form, and the stacks that its steps leave
+abbrev IsAsked : Option (Form Phrase) → Option Asked → Stack → Type 0
+IsAsked form None st = form ≡ None
+IsAsked form (Some a) st = HasTerms form a st
 
 -- what the terms of a line say of its form
 pub line-terms : (f : Option (Form Phrase)) (a : Asked) (n : ℕ) (ts : List Token) (all goes : Bool) (st : Stack) → f ≡ and_then (terms_of n ts) (asked_form a) → ((ps : List Phrase) → length ps ≡ n → IsSome (asked_form a ps)) → all ≡ goes → IsTerms all (terms_of n ts) st

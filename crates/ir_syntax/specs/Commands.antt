@@ -91,8 +91,3 @@ pub record HasTerms (form : Option (Form Phrase)) (a : Asked) (st : Stack) : Typ
   pub built_is : st ≡ only terms
   pub form_is : form ≡ asked_form a terms
   pub some : IsSome form
-
--- what is read of a line of this form, and the stacks that its steps leave
-abbrev pub IsAsked : Option (Form Phrase) → Option Asked → Stack → Type 0
-IsAsked form None st = form ≡ None
-IsAsked form (Some a) st = HasTerms form a st

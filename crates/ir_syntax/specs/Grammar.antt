@@ -21,14 +21,14 @@ use Rattle.ir_syntax.specs.declared.fields.Field.TheVariants as field
 use Rattle.ir_syntax.specs.declared.fields.VariableKind.{VariableKind}
 use Rattle.ir_syntax.specs.declared.fields.VariableKind.TheVariants as variable
 
--- a name, or none
-abbrev pub name_seen : Option Text → KindName Text
-name_seen None = Nameless
-name_seen (Some name) = Called name
+-- a name, or an empty text for none
+abbrev pub name_seen : Text → KindName Text
+name_seen [] = Nameless
+name_seen (b ∷ bs) = Called (b ∷ bs)
 
 abbrev pub kind_seen : VariableKind → Kind Text
-kind_seen (variable.Type name) = record { sort = OfType; name = name_seen (option_map (λ text. text.now) name) }
-kind_seen (variable.Region name) = record { sort = OfRegion; name = name_seen (option_map (λ text. text.now) name) }
+kind_seen (variable.Type name) = record { sort = OfType; name = name_seen name.now }
+kind_seen (variable.Region name) = record { sort = OfRegion; name = name_seen name.now }
 kind_seen variable.Environment = record { sort = OfRegion; name = Environment }
 kind_seen variable.Constant = record { sort = OfConstant; name = Nameless }
 

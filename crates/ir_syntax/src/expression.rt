@@ -1,12 +1,12 @@
 //! Words and brackets.
-ghost use Rattle.std.specs.Prelude.{◌≡◌, ◌-◌, ◌<◌, ◌≤◌, ◌↔◌, IsTrue, true, [], ◌∷◌, ◌++◌, length, reverse, slice_index, IfOk, OnOk, OnErr, option_map};
+ghost use Rattle.std.specs.Prelude.{◌≡◌, ◌-◌, ◌<◌, ◌≤◌, ◌↔◌, IsTrue, true, [], ◌∷◌, ◌++◌, length, reverse, slice_index, None, Some, IfErr, IfOk, OnOk, OnErr, option_map};
 ghost use Rattle.std.specs.List.{slice_range};
 ghost use Rattle.ir_laws.specs.Expression as syntax;
 ghost use Rattle.ir_syntax.specs.Views.{exprs_in, items_of};
 ghost use Rattle.ir_syntax.specs.Nesting.{are_word_bytes, nesting, stack_of, with_bytes, with_separator, Leaves};
 
-use ir_core::{R, TermError};
-use std::alloc::Global;
+use crate::errors::ReadError;
+use std::alloc::{AllocError, Global};
 use std::mem;
 
 /// How deep the brackets of a line may nest.
@@ -59,9 +59,9 @@ impl<'a> Exprs<'a> {
     }
 
     /// Puts an expression last. It is refused only for want of memory, and is then as it was.
-    pub fn push(&mut self, item: Expr<'a>) -> R<()>
+    pub fn push(&mut self, item: Expr<'a>) -> Result<(), AllocError>
         ensures ok { OnOk result (items_of self.new ≡ items_of self.old ++ item.entry ∷ []) }
-        ensures err { OnErr result ((items_of self.new ≡ items_of self.old) × (result ≡ Err TermError.Memory)) }
+        ensures err { OnErr result (items_of self.new ≡ items_of self.old) }
     {
         self.items.push(item)?;
         Ok(())
@@ -88,9 +88,8 @@ impl<'a> OpenGroups<'a> {
     }
 
     /// Goes over a word, or over nothing.
-    fn put_word(&mut self, bytes: &'a [u8]) -> R<()>
+    fn put_word(&mut self, bytes: &'a [u8]) -> Result<(), AllocError>
         ensures read { OnOk result (with_bytes bytes.now (stack_of self.old) ≡ Some (stack_of self.new)) }
-        ensures err { OnErr result (result ≡ Err TermError.Memory) }
     {
         if bytes.is_empty() {
             return Ok(());
@@ -100,11 +99,10 @@ impl<'a> OpenGroups<'a> {
     }
 
     /// Goes over a space or a bracket, and tells whether the line may still have expressions.
-    fn put_separator(&mut self, alloc: Global, byte: u8) -> R<bool>
+    fn put_separator(&mut self, alloc: Global, byte: u8) -> Result<bool, AllocError>
         requires word_end { syntax.ends_word byte ≡ true }
         requires shallow { nesting (stack_of self.old) ≤ 256 }
         ensures read { IfOk result (λ goes. Leaves goes (with_separator byte (Some (stack_of self.old))) (stack_of self.new)) }
-        ensures err { OnErr result (result ≡ Err TermError.Memory) }
     {
         match byte {
             b' ' => Ok(true),
@@ -114,10 +112,9 @@ impl<'a> OpenGroups<'a> {
     }
 
     /// Goes over a closing bracket, which is the first that is seen of a group.
-    fn begin_group(&mut self, alloc: Global) -> R<bool>
+    fn begin_group(&mut self, alloc: Global) -> Result<bool, AllocError>
         requires shallow { nesting (stack_of self.old) ≤ 256 }
         ensures read { IfOk result (λ goes. Leaves goes (syntax.with_token syntax.Closes (Some (stack_of self.old))) (stack_of self.new)) }
-        ensures err { OnErr result (result ≡ Err TermError.Memory) }
     {
         if self.outer.len() >= MAX_DEPTH {
             return Ok(false);
@@ -128,10 +125,9 @@ impl<'a> OpenGroups<'a> {
     }
 
     /// Goes over an opening bracket, with which the innermost group is whole.
-    fn end_group(&mut self) -> R<bool>
+    fn end_group(&mut self) -> Result<bool, AllocError>
         requires shallow { nesting (stack_of self.old) ≤ 256 }
         ensures read { IfOk result (λ goes. Leaves goes (syntax.with_token syntax.Opens (Some (stack_of self.old))) (stack_of self.new)) }
-        ensures err { OnErr result (result ≡ Err TermError.Memory) }
     {
         let Some(around) = self.outer.pop() else {
             return Ok(false);
@@ -202,14 +198,14 @@ fn word_start(line: &[u8], end: usize) -> usize
     start
 }
 
-/// The expressions of a line. There are none if a byte is none of a line's, or its brackets don't
-/// match or nest too deep. It goes from the right, so that no deep tree is ever made.
-pub fn expressions(alloc: Global, line: &[u8]) -> R<Option<Exprs<'_>>>
-    ensures read { IfOk result (λ o. option_map (λ es. exprs_in (items_of es)) o ≡ syntax.expressions line.now) }
-    ensures err { OnErr result (result ≡ Err TermError.Memory) }
+/// The expressions of a line. Syntax comes only where a byte is none of a line's, or its brackets
+/// don't match or nest too deep. It goes from the right, so that no deep tree is ever made.
+pub fn expressions(alloc: Global, line: &[u8]) -> Result<Exprs<'_>, ReadError>
+    ensures read { IfOk result (λ es. syntax.expressions line.now ≡ Some (exprs_in (items_of es))) }
+    ensures refusal { IfErr result (λ e. e ≡ ReadError.Syntax → syntax.expressions line.now ≡ None) }
 {
     if !is_readable(line) {
-        return Ok(None);
+        return Err(ReadError::Syntax);
     }
     let mut groups = OpenGroups::new(alloc);
     let mut end = line.len();
@@ -217,11 +213,14 @@ pub fn expressions(alloc: Global, line: &[u8]) -> R<Option<Exprs<'_>>>
         let start = word_start(line, end);
         groups.put_word(&line[start..end])?;
         if start == 0 {
-            return Ok(groups.into_line());
+            return match groups.into_line() {
+                Some(items) => Ok(items),
+                None => Err(ReadError::Syntax),
+            };
         }
         end = start - 1;
         if !groups.put_separator(alloc, line[end])? {
-            return Ok(None);
+            return Err(ReadError::Syntax);
         }
     }
 }
@@ -232,15 +231,19 @@ mod tests {
     use std::test::Fail;
 
     // How many words and groups the line has.
-    fn count(alloc: Global, line: &[u8]) -> R<Option<usize>> {
-        Ok(expressions(alloc, line)?.map(|items| items.len()))
+    fn count(alloc: Global, line: &[u8]) -> Result<Option<usize>, ReadError> {
+        match expressions(alloc, line) {
+            Ok(items) => Ok(Some(items.len())),
+            Err(ReadError::Syntax) => Ok(None),
+            Err(error) => Err(error),
+        }
     }
 
-    fn nests(alloc: Global, depth: usize) -> R<bool> {
+    fn nests(alloc: Global, depth: usize) -> Result<bool, ReadError> {
         let mut line = vec![in alloc; b'('; depth]?;
         let closing = vec![in alloc; b')'; depth]?;
         line.extend_from_slice(closing.as_slice())?;
-        Ok(expressions(alloc, line.as_slice())?.is_some())
+        Ok(count(alloc, line.as_slice())?.is_some())
     }
 
     fn is_word(item: &Expr<'_>, text: &[u8]) -> bool {
@@ -252,7 +255,7 @@ mod tests {
 
     #[test]
     fn words_and_groups_stand_in_order(rt: HostRuntime) -> Result<(), Fail> {
-        let read = expressions(rt.alloc(), b"  adt (7  u8)() last")?.ok_or("refused")?;
+        let read = expressions(rt.alloc(), b"  adt (7  u8)() last").map_err(|_| "refused")?;
         let [first, pair, none, last] = read.as_slice() else {
             return Err(Fail::from("other expressions"));
         };

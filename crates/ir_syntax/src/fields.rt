@@ -14,11 +14,11 @@ pub enum Field<'a> {
     OfKind(VariableKind<'a>),
 }
 
-/// The kind of a variable. A type or a region may have the name of an item.
+/// The kind of a variable. A type or a region may have the name of an item, and has an empty one else.
 #[derive(Clone, Copy)]
 pub enum VariableKind<'a> {
-    Type(Option<&'a [u8]>),
-    Region(Option<&'a [u8]>),
+    Type(&'a [u8]),
+    Region(&'a [u8]),
     /// The region of a closure's environment.
     Environment,
     Constant,
@@ -41,7 +41,9 @@ impl<'a> VariableKind<'a> {
         ensures { option_map (λ text. text.now) result ≡ name_in (kind_seen self.now) }
     {
         match self {
-            VariableKind::Type(name) | VariableKind::Region(name) => *name,
+            VariableKind::Type(name) | VariableKind::Region(name) => {
+                if name.is_empty() { None } else { Some(*name) }
+            }
             VariableKind::Environment | VariableKind::Constant => None,
         }
     }

@@ -21,14 +21,14 @@ ghost use Rattle.ir_syntax.specs.Frames.{
   push_term,
 };
 ghost use Rattle.ir_syntax.specs.Steps.{Stack, kid_count, step_on};
-ghost use Rattle.std.specs.Prelude.{◌≡◌, ◌≤◌, ◌+◌, ◌∷◌, ℕ, [], true, option_map, Err, IfOk, IfSome, OnErr};
+ghost use Rattle.std.specs.Prelude.{◌≡◌, ◌≤◌, ◌+◌, ◌∷◌, ℕ, [], true, option_map, IfOk, IfSome};
 
 use crate::grammar::{bare_word, field_of, label_before};
 use crate::steps::Step;
 use crate::variables::kind_of;
 use crate::words::name_of;
-use ir_core::{R, TermError};
 use ir_laws::{KidForm, Part, Word};
+use std::alloc::AllocError;
 
 /// What is open, and what is read of it.
 #[derive(Clone, Copy)]
@@ -36,7 +36,7 @@ pub(crate) enum Frame<'a> {
     /// The line behind its command, with so many terms still to come.
     Terms(usize),
     /// A list of this word, with so many members.
-    List(Word, usize),
+    List(Word, u32),
     /// A group of which nothing is read.
     Begun,
     /// A group of which only its first word is read: what comes next decides the label.
@@ -46,7 +46,7 @@ pub(crate) enum Frame<'a> {
     /// A group that must begin with `for`.
     Group,
     /// A group that began so, with so many variable kinds.
-    Variables(usize),
+    Variables(u32),
 }
 
 /// What a word makes of a frame: a step, perhaps, and the frame behind it.
@@ -187,11 +187,10 @@ fn second_word<'a>(first: &[u8], text: &'a [u8]) -> Option<Taken<'a>>
 impl<'a> Frame<'a> {
     /// The frame behind a word, if the word may stand there.
     #[inline(always)]
-    pub(crate) fn after_word(self, text: &'a [u8]) -> R<Option<Taken<'a>>>
+    pub(crate) fn after_word(self, text: &'a [u8]) -> Result<Option<Taken<'a>>, AllocError>
         requires { is_kept self ≡ true }
         ensures read { IfOk result (λ o. (es : Exprs) (st : Stack) → finish self.entry (ThenExpr (Single text.entry.now) es) st ≡ go_on o es st) }
         ensures kept { IfOk result (λ o. IfSome o (KeepsWord (needs self.entry) (gives self.entry))) }
-        ensures err { OnErr result (result ≡ Err TermError.Memory) }
     {
         match self {
             Frame::Terms(wanted) => {
@@ -202,7 +201,7 @@ impl<'a> Frame<'a> {
             }
             Frame::List(word, count) => {
                 let Some(more) = count.checked_add(1) else {
-                    return Err(TermError::Memory);
+                    return Err(AllocError);
                 };
                 Ok(after_step(term_step(text), Frame::List(word, more)))
             }
@@ -223,7 +222,7 @@ impl<'a> Frame<'a> {
             }
             Frame::Variables(count) => {
                 let Some(more) = count.checked_add(1) else {
-                    return Err(TermError::Memory);
+                    return Err(AllocError);
                 };
                 let Some(kind) = kind_of(text) else {
                     return Ok(None);
@@ -238,11 +237,10 @@ impl<'a> Frame<'a> {
 
     /// The frames in and behind a group, if a group may stand there.
     #[inline(always)]
-    pub(crate) fn around(self) -> R<Option<Around<'a>>>
+    pub(crate) fn around(self) -> Result<Option<Around<'a>>, AllocError>
         requires { is_kept self ≡ true }
         ensures read { IfOk result (λ o. (inner es : Exprs) (st : Stack) → finish self.entry (ThenExpr (Group inner) es) st ≡ enter o inner es st) }
         ensures kept { IfOk result (λ o. IfSome o (KeepsGroup (needs self.entry) (gives self.entry))) }
-        ensures err { OnErr result (result ≡ Err TermError.Memory) }
     {
         match self {
             Frame::Terms(wanted) => {
@@ -256,7 +254,7 @@ impl<'a> Frame<'a> {
             }
             Frame::List(word, count) => {
                 let Some(more) = count.checked_add(1) else {
-                    return Err(TermError::Memory);
+                    return Err(AllocError);
                 };
                 Ok(Some(Around {
                     inner: Frame::Begun,

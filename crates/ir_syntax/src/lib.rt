@@ -2,6 +2,7 @@
 #![tactic(auto)]
 
 mod commands;
+mod errors;
 mod expression;
 mod fields;
 mod frames;
@@ -14,6 +15,7 @@ mod variables;
 mod words;
 
 pub use commands::Asked;
+pub use errors::ReadError;
 pub use expression::{Expr, Exprs, expressions};
 pub use fields::{Field, VariableKind, field_count, kid_count};
 pub use scan::Reader;

@@ -1,20 +1,20 @@
 //! Reads a line from its left into steps, with no tree between.
 ghost use Rattle.ir_laws.specs.Expression.{Opens, Closes, Word, tokens_of};
 ghost use Rattle.ir_laws.specs.Form.{form_of};
-ghost use Rattle.ir_syntax.specs.Commands.{IsAsked, IsTerms, terms_of};
+ghost use Rattle.ir_syntax.specs.Commands.{HasTerms, IsTerms, terms_of};
 ghost use Rattle.ir_syntax.specs.Frames.{maybe_on, taken_by};
 ghost use Rattle.ir_syntax.specs.Reading.{IsOpen, Takes, ahead, if_goes};
 ghost use Rattle.ir_syntax.specs.Steps.{AreAmple, IsKnown, built, only};
 ghost use Rattle.ir_syntax.specs.Tokens.{token_seen};
-ghost use Rattle.std.specs.Prelude.{◌≡◌, ◌≤◌, [], length, Some, Err, IfOk, IfSome, OnErr, OnOk};
+ghost use Rattle.std.specs.Prelude.{◌≡◌, ◌≤◌, [], length, None, Some, IfErr, IfOk, IfSome, OnOk};
 
 use crate::commands::{Asked, asked_of};
+use crate::errors::ReadError;
 use crate::expression::MAX_DEPTH;
 use crate::frames::Frame;
 use crate::steps::Step;
 use crate::tokens::{Token, first_token};
-use ir_core::{R, TermError};
-use std::alloc::Global;
+use std::alloc::{AllocError, Global};
 
 /// What is kept from line to line, so that a line takes no memory of its own.
 #[derive(Drop)]
@@ -37,12 +37,11 @@ impl<'a> Reader<'a> {
 
     /// Puts a step last, where there is one.
     #[inline(always)]
-    fn put(&mut self, step: Option<Step<'a>>) -> R<()>
+    fn put(&mut self, step: Option<Step<'a>>) -> Result<(), AllocError>
         ensures ample { taken_by step.entry ≤ length (built self.old.steps.items).terms → IfSome step.entry IsKnown → AreAmple (only []) self.old.steps.items → OnOk result (AreAmple (only []) self.new.steps.items) }
         ensures put { OnOk result (built self.new.steps.items ≡ maybe_on step.entry (built self.old.steps.items)) }
         ensures frame { OnOk result (self.new.frame ≡ self.old.frame) }
         ensures outer { OnOk result (self.new.outer.items ≡ self.old.outer.items) }
-        ensures err { OnErr result (result ≡ Err TermError.Memory) }
     {
         if let Some(step) = step {
             self.steps.push(step)?;
@@ -52,11 +51,10 @@ impl<'a> Reader<'a> {
 
     /// Goes over an opening bracket, if one may stand here.
     #[inline(always)]
-    fn open(&mut self) -> R<bool>
+    fn open(&mut self) -> Result<bool, AllocError>
         requires { IsOpen self.old }
         ensures read { IfOk result (λ goes. Takes Opens self.old goes self.new) }
         ensures open { OnOk result (IsOpen self.new) }
-        ensures err { OnErr result (result ≡ Err TermError.Memory) }
     {
         let Some(around) = self.frame.around()? else {
             return Ok(false);
@@ -71,11 +69,10 @@ impl<'a> Reader<'a> {
 
     /// Goes over a closing bracket, if one may stand here.
     #[inline(always)]
-    fn close(&mut self) -> R<bool>
+    fn close(&mut self) -> Result<bool, AllocError>
         requires { IsOpen self.old }
         ensures read { IfOk result (λ goes. Takes Closes self.old goes self.new) }
         ensures open { OnOk result (IsOpen self.new) }
-        ensures err { OnErr result (result ≡ Err TermError.Memory) }
     {
         let Some(step) = self.frame.end() else {
             return Ok(false);
@@ -90,11 +87,10 @@ impl<'a> Reader<'a> {
 
     /// Goes over a word, if it may stand here.
     #[inline(always)]
-    fn take_word(&mut self, word: &'a [u8]) -> R<bool>
+    fn take_word(&mut self, word: &'a [u8]) -> Result<bool, AllocError>
         requires { IsOpen self.old }
         ensures read { IfOk result (λ goes. Takes (Word word.entry.now) self.old goes self.new) }
         ensures open { OnOk result (IsOpen self.new) }
-        ensures err { OnErr result (result ≡ Err TermError.Memory) }
     {
         let Some(taken) = self.frame.after_word(word)? else {
             return Ok(false);
@@ -106,11 +102,10 @@ impl<'a> Reader<'a> {
 
     /// Goes over a token, if it may stand here.
     #[inline(always)]
-    fn take(&mut self, token: Token<'a>) -> R<bool>
+    fn take(&mut self, token: Token<'a>) -> Result<bool, AllocError>
         requires { IsOpen self.old }
         ensures read { IfOk result (λ goes. Takes (token_seen token.entry) self.old goes self.new) }
         ensures open { OnOk result (IsOpen self.new) }
-        ensures err { OnErr result (result ≡ Err TermError.Memory) }
     {
         match token {
             Token::Opens => self.open(),
@@ -120,11 +115,10 @@ impl<'a> Reader<'a> {
     }
 
     /// Ends the line, if it may end here.
-    fn end(&mut self) -> R<bool>
+    fn end(&mut self) -> Result<bool, AllocError>
         requires { IsOpen self.old }
         ensures ample { OnOk result (AreAmple (only []) self.new.steps.items) }
         ensures read { IfOk result (λ goes. ahead self.old [] ≡ if_goes goes (Some (built self.new.steps.items))) }
-        ensures err { OnErr result (result ≡ Err TermError.Memory) }
     {
         if !self.outer.is_empty() {
             return Ok(false);
@@ -137,10 +131,9 @@ impl<'a> Reader<'a> {
     }
 
     /// Reads so many terms, and tells whether the text is these.
-    fn read_terms(&mut self, text: &'a [u8], count: usize) -> R<bool>
+    fn read_terms(&mut self, text: &'a [u8], count: usize) -> Result<bool, AllocError>
         ensures ample { OnOk result (AreAmple (only []) self.new.steps.items) }
         ensures read { IfOk result (λ all. IsTerms all (terms_of count (tokens_of text.entry.now)) (built self.new.steps.items)) }
-        ensures err { OnErr result (result ≡ Err TermError.Memory) }
     {
         self.steps.clear();
         self.outer.clear();
@@ -155,19 +148,19 @@ impl<'a> Reader<'a> {
         self.end()
     }
 
-    /// Reads a line: what it asks for, and its terms as steps; nothing where it has no form of the grammar.
-    pub fn read_line(&mut self, line: &'a [u8]) -> R<Option<Asked<'a>>>
-        ensures read { IfOk result (λ asked. IsAsked (form_of line.entry.now) asked (built self.new.steps.items)) }
-        ensures ample { IfOk result (λ asked. IfSome asked (λ a. AreAmple (only []) self.new.steps.items)) }
-        ensures err { OnErr result (result ≡ Err TermError.Memory) }
+    /// Reads a line: what it asks for, and its terms as steps. Syntax comes only where it has no form of the grammar.
+    pub fn read_line(&mut self, line: &'a [u8]) -> Result<Asked<'a>, ReadError>
+        ensures read { IfOk result (λ asked. HasTerms (form_of line.entry.now) asked (built self.new.steps.items)) }
+        ensures ample { OnOk result (AreAmple (only []) self.new.steps.items) }
+        ensures refusal { IfErr result (λ e. e ≡ ReadError.Syntax → form_of line.entry.now ≡ None) }
     {
         let Some((asked, count, text)) = asked_of(line) else {
-            return Ok(None);
+            return Err(ReadError::Syntax);
         };
         if self.read_terms(text, count)? {
-            Ok(Some(asked))
+            Ok(asked)
         } else {
-            Ok(None)
+            Err(ReadError::Syntax)
         }
     }
 }
@@ -175,6 +168,7 @@ impl<'a> Reader<'a> {
 #[cfg(test)]
 mod tests {
     use super::*;
+    use ir_core::R;
     use std::test::Fail;
 
     // A letter for what a line asks for.
@@ -194,16 +188,22 @@ mod tests {
             Step::Name(_) => (b'n', 0),
             Step::Field(_) => (b'f', 0),
             Step::Variable(_) => (b'v', 0),
-            Step::Bind(count) => (b'b', *count),
+            Step::Bind(count) => (b'b', *count as usize),
             Step::Label(_) => (b'l', 0),
-            Step::List(_, count) => (b'm', *count),
+            Step::List(_, count) => (b'm', *count as usize),
         }
     }
 
     // Whether the line is read as these letters say: what it asks for, and its steps; `?` where it is refused.
-    fn reads(reader: &mut Reader<'static>, line: &'static [u8], want: &[u8]) -> R<bool> {
-        let Some(asked) = reader.read_line(line)? else {
-            return Ok(want == b"?".as_slice());
+    fn reads(
+        reader: &mut Reader<'static>,
+        line: &'static [u8],
+        want: &[u8],
+    ) -> Result<bool, ReadError> {
+        let asked = match reader.read_line(line) {
+            Ok(asked) => asked,
+            Err(ReadError::Syntax) => return Ok(want == b"?".as_slice()),
+            Err(error) => return Err(error),
         };
         let mut left = match want.split_first() {
             Some((first, rest)) if *first == letter(asked) => rest,
@@ -279,8 +279,8 @@ mod tests {
         Ok(())
     }
 
-    // Whether a line with so many tuples round this term is read.
-    fn nests(alloc: Global, tuples: usize, term: &[u8]) -> R<bool> {
+    // A line with so many tuples round this term.
+    fn nested(alloc: Global, tuples: usize, term: &[u8]) -> R<Vec<u8>> {
         let mut line = Vec::new(alloc);
         line.extend_from_slice(b"print ")?;
         for _ in 0..tuples {
@@ -290,8 +290,14 @@ mod tests {
         for _ in 0..tuples {
             line.extend_from_slice(b"))")?;
         }
+        Ok(line)
+    }
+
+    // Whether such a line is read.
+    fn nests(alloc: Global, tuples: usize, term: &[u8]) -> R<bool> {
+        let line = nested(alloc, tuples, term)?;
         let mut reader = Reader::new(alloc);
-        Ok(reader.read_line(line.as_slice())?.is_some())
+        Ok(reader.read_line(line.as_slice()).is_ok())
     }
 
     #[test]

@@ -15,9 +15,9 @@ pub enum Step<'a> {
     /// A variable kind of a group to come.
     Variable(VariableKind<'a>),
     /// The topmost so many variable kinds are a group.
-    Bind(usize),
+    Bind(u32),
     /// A label of this word takes as many of the topmost fields, groups and terms as its row has.
     Label(Word),
     /// A list of this word has so many of the topmost terms as members.
-    List(Word, usize),
+    List(Word, u32),
 }

@@ -22,10 +22,10 @@ pub(crate) fn region_kind_of(text: &[u8]) -> Option<VariableKind<'_>>
     ensures { option_map kind_seen result ≡ region_kind_of text.now }
 {
     match text {
-        b"r" => Some(VariableKind::Region(None)),
+        b"r" => Some(VariableKind::Region(b"")),
         b"env" => Some(VariableKind::Environment),
         _ => match name_after(b"r:", text) {
-            Some(name) => Some(VariableKind::Region(Some(name))),
+            Some(name) => Some(VariableKind::Region(name)),
             None => None,
         },
     }
@@ -39,10 +39,10 @@ pub(crate) fn kind_of(text: &[u8]) -> Option<VariableKind<'_>>
         return Some(kind);
     }
     match text {
-        b"t" => Some(VariableKind::Type(None)),
+        b"t" => Some(VariableKind::Type(b"")),
         b"c" => Some(VariableKind::Constant),
         _ => match name_after(b"t:", text) {
-            Some(name) => Some(VariableKind::Type(Some(name))),
+            Some(name) => Some(VariableKind::Type(name)),
             None => None,
         },
     }
@@ -57,10 +57,10 @@ mod tests {
     fn letter(kind: &Option<VariableKind<'_>>) -> u8 {
         match kind {
             None => b'-',
-            Some(VariableKind::Type(None)) => b't',
-            Some(VariableKind::Type(Some(_))) => b'T',
-            Some(VariableKind::Region(None)) => b'r',
-            Some(VariableKind::Region(Some(_))) => b'R',
+            Some(VariableKind::Type([])) => b't',
+            Some(VariableKind::Type(_)) => b'T',
+            Some(VariableKind::Region([])) => b'r',
+            Some(VariableKind::Region(_)) => b'R',
             Some(VariableKind::Environment) => b'e',
             Some(VariableKind::Constant) => b'c',
         }
