@@ -6,7 +6,7 @@ use Rattle.ir_core.specs.declared.ids.SolverDefId.{SolverDefId}
 use Rattle.ir_core.specs.declared.handles.Part.{Part as Held}
 use Rattle.ir_laws.specs.Cause.{Cause, WrongSort}
 use Rattle.ir_laws.specs.Counts.{sort_of, sort_of_label, word_of}
-use Rattle.ir_laws.specs.Environment.{Environment, NamedTerm, field_meant, kind_in, term_named}
+use Rattle.ir_laws.specs.Environment.{Environment, field_meant, kind_in, term_named}
 use Rattle.ir_laws.specs.Heap.{Heap, tree_of}
 use Rattle.ir_laws.specs.Label.{row}
 use Rattle.ir_laws.specs.Names.{field_forms, unless}
@@ -21,12 +21,11 @@ use Rattle.ir_laws.specs.declared.labels.Part.TheVariants.{AKid}
 use Rattle.ir_laws.specs.declared.labels.Sort.{Sort}
 use Rattle.ir_laws.specs.declared.words.Word.{Word}
 use Rattle.ir_nodes.specs.Fits.{part_sort}
-use Rattle.ir_script.specs.Causes.{no_names}
 use Rattle.ir_script.specs.LookedUp.{no_name, field_names, step_count}
 use Rattle.ir_script.specs.Open.{kids_made, kids_open, own_misfits, places_made, sort_made}
 use Rattle.ir_syntax.specs.Grammar.{field_seen, kind_seen}
 use Rattle.ir_script.specs.Resolved.{AreResolved, IsResolved}
-use Rattle.ir_script.specs.Scope.{AreTerms, Named, env_of, named_only, part_named, term_in}
+use Rattle.ir_script.specs.Scope.{AreTerms, Named, env_of, part_named}
 use Rattle.ir_syntax.specs.Steps.{Stack, below, group_taken, kid_count, label_over, label_taken, built, only, phrases, step_on, top}
 use Rattle.ir_script.specs.Wanted.{bare}
 use Rattle.ir_script.specs.declared.resolved.Resolved.{Resolved}
@@ -44,18 +43,6 @@ wrongs (OfKind k) = field_names (OfKind k)
 wrongs (Item name) = 1
 wrongs f = 0
 
--- where no item is declared the places of kids don't go by items
-no_item : (ts : List NamedTerm) (fs : List (Field Text)) → first_item (named_only ts) fs ≡ None
-no_item ts [] = refl
-no_item ts (Item name ∷ fs) = refl
-no_item ts (f ∷ fs) = no_item ts fs
-
-kids_alike : (ts : List NamedTerm) (fs : List (Field Text)) (parts : List Part) → kids_wanted (named_only ts) fs parts ≡ kids_wanted no_names [] parts
-kids_alike ts fs [] = refl
-kids_alike ts fs (AKid (ArgumentsOf count) ∷ parts) = λ i. Arguments (and_then (no_item ts fs i) (argument_sorts (named_only ts) count)) ∷ kids_alike ts fs parts i
-kids_alike ts fs (AKid form ∷ parts) = ap (λ ws. kid_wanted no_names [] form ∷ ws) (kids_alike ts fs parts)
-kids_alike ts fs (part ∷ parts) = kids_alike ts fs parts
-
 -- where none is counted there is no cause
 abbrev IsClean : ℕ → List Cause → Type 0
 IsClean n cs = n ≡ 0 → cs ≡ []
@@ -63,9 +50,17 @@ IsClean n cs = n ≡ 0 → cs ≡ []
 clean_both : (m n : ℕ) (cs ds : List Cause) → IsClean m cs → IsClean n ds → IsClean (m + n) (cs ++ ds)
 clean_both m n cs ds left right = λ none i. left (omega (arith, none)) i ++ right (omega (arith, none)) i
 
-module _ (ts : List NamedTerm) where
+kids_few : (n : ℕ) (xs : List Phrase) → n ≤ length xs → length (top n xs) ≡ n
+kids_few n xs h = omega (arith, length-drop (length xs - n) xs, h)
+
+open_many : (ws : List Wanted) (further : Wanted) (n : ℕ) → length (kids_open ws further n) ≡ n
+open_many ws further zero = refl
+open_many [] further (suc n) = ap suc (open_many [] further n)
+open_many (w ∷ ws) further (suc n) = ap suc (open_many ws further n)
+
+module _ (h : Heap Held) (ns : List Named) where
   abbrev env : Environment
-  env = named_only ts
+  env = env_of h ns
 
   -- ---- labels without such names
 
@@ -91,11 +86,22 @@ module _ (ts : List NamedTerm) where
 
   -- ---- the places of kids: whichever fields are counted, no item is among them
 
-  places_alike : (wanted : Wanted) (l : Label Text) → places env wanted l ≡ places no_names wanted (bare l.word)
+  no_item : (fs : List (Field Text)) → first_item env fs ≡ None
+  no_item [] = refl
+  no_item (Item name ∷ fs) = refl
+  no_item (f ∷ fs) = no_item fs
+
+  kids_alike : (fs : List (Field Text)) (parts : List Part) → kids_wanted env fs parts ≡ kids_wanted env [] parts
+  kids_alike fs [] = refl
+  kids_alike fs (AKid (ArgumentsOf count) ∷ parts) = λ i. Arguments (and_then (no_item fs i) (argument_sorts env count)) ∷ kids_alike fs parts i
+  kids_alike fs (AKid form ∷ parts) = ap (λ ws. kid_wanted env [] form ∷ ws) (kids_alike fs parts)
+  kids_alike fs (part ∷ parts) = kids_alike fs parts
+
+  places_alike : (wanted : Wanted) (l : Label Text) → places env wanted l ≡ places env wanted (bare l.word)
   places_alike (Members sort if_empty) l = refl
   places_alike (Arguments None) l = refl
   places_alike (Arguments (Some sorts)) l = refl
-  places_alike wanted l = λ i. record { first = (kids_alike ts (fields_counted env l) (row l.word).parts ∙ sym (kids_alike [] (fields_counted no_names (bare l.word)) (row l.word).parts)) i; further = an_argument }
+  places_alike wanted l = λ i. record { first = (kids_alike (fields_counted env l) (row l.word).parts ∙ sym (kids_alike (fields_counted env (bare l.word)) (row l.word).parts)) i; further = an_argument }
 
   -- ---- the faults of a label, and of its kids
 
@@ -110,43 +116,31 @@ module _ (ts : List NamedTerm) where
   each_fault (w ∷ ws) further (q ∷ qs) = ap (λ cs. misfits env w q ++ cs) (each_fault ws further qs)
 
   label_faults : (wanted : Wanted) (l : Label Text) (b : Option (List (Kind Text))) (qs : List Phrase) → count_fields no_name wrongs l ≡ 0 → count_bind no_name wrongs b ≡ 0
-      → misfits env wanted (Labelled l b (phrases qs)) ≡ own_misfits wanted l.word (sort_of_label l) (Some (l.word, length qs)) ++ one_each fault (places_made wanted (Some (l.word, length qs))) qs
+      → misfits env wanted (Labelled l b (phrases qs)) ≡ own_misfits wanted l.word (sort_of_label l) (Some (l.word, length qs)) ++ one_each fault (places_made env wanted (Some (l.word, length qs))) qs
   label_faults wanted l b qs fields bound =
       let own = unless (suits wanted l.word (sort_of_label l)) WrongSort in
       (λ i. own ++ clean_fields l fields i ++ clean_bind b bound i ++ length_misfits wanted (length (list-phrases qs i)) ++ each_misfits env (places_alike wanted l i).first (places_alike wanted l i).further (phrases qs))
-      ∙ (λ i. append-nil (append-nil own i) i ++ length_misfits wanted (length qs) ++ each_fault (places no_names wanted (bare l.word)).first (places no_names wanted (bare l.word)).further qs i)
+      ∙ (λ i. append-nil (append-nil own i) i ++ length_misfits wanted (length qs) ++ each_fault (places env wanted (bare l.word)).first (places env wanted (bare l.word)).further qs i)
 
--- ---- steps
+  -- ---- steps
 
-kids_few : (n : ℕ) (xs : List Phrase) → n ≤ length xs → length (top n xs) ≡ n
-kids_few n xs h = omega (arith, length-drop (length xs - n) xs, h)
-
-open_many : (ws : List Wanted) (further : Wanted) (n : ℕ) → length (kids_open ws further n) ≡ n
-open_many ws further zero = refl
-open_many [] further (suc n) = ap suc (open_many [] further n)
-open_many (w ∷ ws) further (suc n) = ap suc (open_many ws further n)
-
-module _ (h : Heap Held) (ns : List Named) where
-  abbrev pub terms : List NamedTerm
-  terms = map (term_in h) ns
-
-  kind_clean : (k : Kind Text) (v : Kind SolverDefId) → kind_in (env_of h ns) k ≡ Some v → wrongs (OfKind k) ≡ 0
+  kind_clean : (k : Kind Text) (v : Kind SolverDefId) → kind_in env k ≡ Some v → wrongs (OfKind k) ≡ 0
   kind_clean k v is = by k.name is
     where
       by : (n : KindName Text) → elim n as (λ n. Option (Kind SolverDefId)) [ Nameless ↦ Some (record { sort = k.sort; name = Nameless }) | EnvName ↦ Some (record { sort = k.sort; name = EnvName }) | Called name ↦ None ] ≡ Some v → elim n as (λ n. ℕ) [ Nameless ↦ 0 | EnvName ↦ 0 | Called name ↦ 1 ] ≡ 0
       by (Called name) is = absurd (cc)
       by n is = refl
 
-  field_clean : (x : Field Text) (y : Field SolverDefId) → field_meant (env_of h ns) x ≡ Some y → wrongs x ≡ 0
+  field_clean : (x : Field Text) (y : Field SolverDefId) → field_meant env x ≡ Some y → wrongs x ≡ 0
   field_clean (Item name) y is = absurd (cc)
-  field_clean (OfKind k) y is = by (kind_in (env_of h ns) k) refl is
+  field_clean (OfKind k) y is = by (kind_in env k) refl is
     where
-      by : (o : Option (Kind SolverDefId)) → kind_in (env_of h ns) k ≡ o → option_map OfKind o ≡ Some y → wrongs (OfKind k) ≡ 0
+      by : (o : Option (Kind SolverDefId)) → kind_in env k ≡ o → option_map OfKind o ≡ Some y → wrongs (OfKind k) ≡ 0
       by (Some v) e is = kind_clean k v e
       by None e is = absurd (cc)
   field_clean x y is = refl
 
-  step_clean : (st : Stack) (step : Step) (r : Resolved) → IsResolved (env_of h ns) ns st step r → step_count no_name wrongs step ≡ 0
+  step_clean : (st : Stack) (step : Step) (r : Resolved) → IsResolved env ns st step r → step_count no_name wrongs step ≡ 0
   step_clean st (code.Name name) r is = refl
   step_clean st (code.Field f) (seen.Field g) is = field_clean (field_seen f) _ is
   step_clean st (code.Variable k) (seen.Variable v) is = kind_clean (kind_seen k) _ is
@@ -155,13 +149,13 @@ module _ (h : Heap Held) (ns : List Named) where
   step_clean st (code.List w n) r is = refl
   step_clean st step r is = absurd is
 
-  steps_clean : (st : Stack) (steps : List Step) (rs : List Resolved) → AreResolved (env_of h ns) ns st steps rs → steps_count no_name wrongs steps ≡ 0
+  steps_clean : (st : Stack) (steps : List Step) (rs : List Resolved) → AreResolved env ns st steps rs → steps_count no_name wrongs steps ≡ 0
   steps_clean st [] rs all = refl
   steps_clean st (s ∷ steps) [] all = absurd all
   steps_clean st (s ∷ steps) (r ∷ rs) all = omega (arith, sum_by-cons (step_count no_name wrongs) s steps, step_clean st s r all.0, steps_clean (step_on st s) steps rs all.1)
 
   -- the stacks hold no name that is no item's
-  pub stack_clean : (steps : List Step) (rs : List Resolved) (i : ℕ) → AreResolved (env_of h ns) ns (only []) steps rs → stack_count no_name wrongs (built (take i steps)) ≡ 0
+  pub stack_clean : (steps : List Step) (rs : List Resolved) (i : ℕ) → AreResolved env ns (only []) steps rs → stack_count no_name wrongs (built (take i steps)) ≡ 0
   stack_clean steps rs i all = omega (arith, count_built no_name wrongs (take i steps), sum_by-take-le (step_count no_name wrongs) steps i, steps_clean (only []) steps rs all)
 
   -- What a step makes of the terms: a term over the last ones, with the faults of its own and those of its kids
@@ -172,13 +166,13 @@ module _ (h : Heap Held) (ns : List Named) where
     pub word : Word
     pub before_is : before ≡ rest ++ taken
     pub after_is : after ≡ rest ++ phrase ∷ []
-    pub sort_is : sort_of_phrase (env_of h ns) phrase ≡ Some sort
-    pub faults_are : (wanted : Wanted) → misfits (env_of h ns) wanted phrase ≡ own_misfits wanted word sort kids ++ one_each (fault terms) (places_made wanted kids) taken
-    pub as_many : (wanted : Wanted) → length (places_made wanted kids) ≡ length taken
+    pub sort_is : sort_of_phrase env phrase ≡ Some sort
+    pub faults_are : (wanted : Wanted) → misfits env wanted phrase ≡ own_misfits wanted word sort kids ++ one_each fault (places_made env wanted kids) taken
+    pub as_many : (wanted : Wanted) → length (places_made env wanted kids) ≡ length taken
 
   name_makes : AreTerms h ns → (before : List Phrase) (name : Text) (q : Held) → part_named ns name ≡ Some q → Makes before (before ++ Name name ∷ []) (part_sort q) None
   name_makes are before name q is =
-      let term : term_named (env_of h ns) name ≡ Some (tree_of h q) = term_is h ns name ∙ ap (option_map (tree_of h)) is in
+      let term : term_named env name ≡ Some (tree_of h q) = term_is h ns name ∙ ap (option_map (tree_of h)) is in
       let sort : sort_of (tree_of h q) ≡ part_sort q = (named_is_term h ns name q are is).sort in
       record {
         rest = before;
@@ -204,15 +198,15 @@ module _ (h : Heap Held) (ns : List Named) where
     before_is = sym (take-append-drop (length before - n) before);
     after_is = refl;
     sort_is = refl;
-    faults_are = λ wanted. label_faults terms wanted l b (top n before) fields bound ∙ ap (λ m. own_misfits wanted l.word (sort_of_label l) (Some (l.word, m)) ++ one_each (fault terms) (places_made wanted (Some (l.word, m))) (top n before)) (kids_few n before ample);
-    as_many = λ wanted. open_many (places no_names wanted (bare l.word)).first (places no_names wanted (bare l.word)).further n ∙ sym (kids_few n before ample);
+    faults_are = λ wanted. label_faults wanted l b (top n before) fields bound ∙ ap (λ m. own_misfits wanted l.word (sort_of_label l) (Some (l.word, m)) ++ one_each fault (places_made env wanted (Some (l.word, m))) (top n before)) (kids_few n before ample);
+    as_many = λ wanted. open_many (places env wanted (bare l.word)).first (places env wanted (bare l.word)).further n ∙ sym (kids_few n before ample);
   }
 
   -- the label that the stacks make has no such name either
   over_clean : (st : Stack) (w : Word) → stack_count no_name wrongs st ≡ 0 → count_fields no_name wrongs (label_taken w st) + count_bind no_name wrongs (group_taken (row w).parts st) ≡ 0
   over_clean st w clean = omega (arith, clean, count_step no_name wrongs st (code.Label w), sum_by_push (count no_name wrongs) (below (kid_count (row w).parts) st.terms) (label_over w st))
 
-  pub step_makes : AreTerms h ns → (st : Stack) (step : Step) (r : Resolved) (sort : Sort) → stack_count no_name wrongs st ≡ 0 → IsResolved (env_of h ns) ns st step r → sort_made r ≡ Some sort → Makes st.terms (step_on st step).terms sort (kids_made r)
+  pub step_makes : AreTerms h ns → (st : Stack) (step : Step) (r : Resolved) (sort : Sort) → stack_count no_name wrongs st ≡ 0 → IsResolved env ns st step r → sort_made r ≡ Some sort → Makes st.terms (step_on st step).terms sort (kids_made r)
   step_makes are st (code.Name name) (seen.Term q) sort clean is some =
       let same : part_sort q ≡ sort = cc in
       subst (λ s. Makes st.terms (st.terms ++ Name name.now ∷ []) s None) same (name_makes are st.terms name.now q is)
@@ -236,7 +230,7 @@ module _ (h : Heap Held) (ns : List Named) where
   step_makes are st step r sort clean is some = absurd is
 
   -- other steps make none
-  pub step_quiet : (st : Stack) (step : Step) (r : Resolved) → IsResolved (env_of h ns) ns st step r → sort_made r ≡ None → (step_on st step).terms ≡ st.terms
+  pub step_quiet : (st : Stack) (step : Step) (r : Resolved) → IsResolved env ns st step r → sort_made r ≡ None → (step_on st step).terms ≡ st.terms
   step_quiet st (code.Name name) (seen.Term q) is none = absurd (cc)
   step_quiet st (code.Label w) (seen.Label v s) is none = absurd (cc)
   step_quiet st (code.List w n) (seen.List v m) is none = absurd (cc)

@@ -9,7 +9,7 @@ use Rattle.std.specs.List.{list_all}
 use Rattle.std.specs.Option.{option_map}
 use Rattle.ir_core.specs.declared.handles.Part.{Part}
 use Rattle.ir_laws.specs.Answer as answer
-use Rattle.ir_laws.specs.Answer.{yes_or_no, resolved, text_of_line, after_line, with_end}
+use Rattle.ir_laws.specs.Answer.{start, yes_or_no, resolved, text_of_line, after_line, with_end}
 use Rattle.ir_laws.specs.Cause as cause
 use Rattle.ir_laws.specs.Cause.{is_cause_among}
 use Rattle.ir_laws.specs.Causes.{earliest, form_causes, limit_causes, size_causes, tree_stages_if, unlisted_causes}
@@ -41,7 +41,7 @@ use Rattle.ir_script.specs.Answered.{AnswersForm, WritesLine, YesOrNo, causes_me
 use Rattle.ir_syntax.specs.Commands.{HasTerms, asked_count, asked_form, own_causes, wants_one_sort}
 use Rattle.ir_syntax.specs.declared.errors.ReadError.{ReadError}
 use Rattle.ir_syntax.specs.declared.errors.ReadError.TheVariants as read
-use Rattle.ir_script.specs.Causes.{Says, cause_seen, no_names, read_cause}
+use Rattle.ir_script.specs.Causes.{Says, cause_seen, read_cause}
 use Rattle.ir_script.specs.Operands.{operand_unknowns}
 use Rattle.ir_script.specs.Scope.{Named, IsTerm, env_of}
 use Rattle.ir_script.specs.Staged.{AreOperands, MakesTerms, operand_causes, operand_sorts, operand_trees}
@@ -164,12 +164,12 @@ module _ {form : Option (Form Phrase)} {a : Asked} {st : Stack} (has : HasTerms 
   found_takes env = subst (TakesIf env a st.terms) (ap (asked_form a) terms_are ∙ sym has.form_is ∙ found.1) (takes env a st.terms)
 
 pub asked_count_is : {form : Option (Form Phrase)} {a : Asked} {st : Stack} → HasTerms form a st → length st.terms ≡ asked_count a
-asked_count_is has = (found_takes has no_names).count
+asked_count_is has = (found_takes has start.environment).count
 
 pub asked_operands : (line : Text) {a : Asked} {st : Stack} → HasTerms (form_of line) a st → AreOperands st
 asked_operands line has = record {
   alone = has.built_is ∙ ap only (sym (terms_are has));
-  formed = ap (list_all is_formed) (sym (found_takes has no_names).terms) ∙ subst MaybeFormed (found has).1 (line_formed line);
+  formed = ap (list_all is_formed) (sym (found_takes has start.environment).terms) ∙ subst MaybeFormed (found has).1 (line_formed line);
 }
 
 -- ---- what it meets and writes

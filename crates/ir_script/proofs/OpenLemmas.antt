@@ -23,13 +23,13 @@ use Rattle.ir_script.specs.declared.sorts.Operands.{Operands}
 use Rattle.ir_script.specs.declared.sorts.Wanted as code
 use Rattle.ir_script.specs.declared.sorts.Wanted.TheVariants as wants
 use Rattle.ir_script.proofs.CauseLemmas.{says_left, says_right}
-use Rattle.ir_script.proofs.FaultLemmas.{Makes, fault, stack_clean, step_makes, step_quiet, terms}
+use Rattle.ir_script.proofs.FaultLemmas.{Makes, fault, stack_clean, step_makes, step_quiet}
 use Rattle.ir_script.proofs.PendingLemmas.{all_operands, in_last, in_more, in_none, in_places, one_each}
 use Rattle.ir_script.proofs.StepLemmas.{IsNext, resolved_length, resolved_next}
 
 module _ (h : Heap Part) (ns : List Named) (ps : List Phrase) where
   abbrev faults : Option Wanted → Phrase → List spec.Cause
-  faults = fault (terms h ns)
+  faults = fault h ns
 
   -- the sort of an operand
   abbrev own_sort : Option Wanted → Phrase → List (Option Sort)
@@ -73,7 +73,7 @@ module _ (h : Heap Part) (ns : List Named) (ps : List Phrase) where
     own = own_misfits wanted makes.word sort kids
 
     abbrev deeper : List spec.Cause
-    deeper = one_each faults (places_made wanted kids) makes.taken
+    deeper = one_each faults (places_made (env_of h ns) wanted kids) makes.taken
 
     abbrev others : List spec.Cause
     others = in_places faults (open_places ys) makes.rest
@@ -100,13 +100,13 @@ module _ (h : Heap Part) (ns : List Named) (ps : List Phrase) where
     open_fault c (inr says) = record { fit = tt; alike = tt; fault = inr (subst (λ cs. Says c cs) whole (says_left (others ++ own) deeper c (says_right others own c (says makes.word)))) }
 
     -- one that does: the places of its kids are open
-    pub open_next : (zs : List Pending) (with : Operands) → ((word : Word) → own_misfits wanted word sort kids ≡ []) → open_places zs ≡ open_places ys ++ places_made wanted kids
+    pub open_next : (zs : List Pending) (with : Operands) → ((word : Word) → own_misfits wanted word sort kids ≡ []) → open_places zs ≡ open_places ys ++ places_made (env_of h ns) wanted kids
         → ((front : List (Option Sort)) → (are_alike (front ++ sort_open place sort ++ sort_behind operands.first) && operands.alike) ≡ (are_alike (front ++ sort_behind with.first) && with.alike))
         → AreOpen before zs with
     open_next zs with fits opened alike = record {
       faults_are = more faults ∙ ap (λ cs. cs ++ deeper) (sym (append-nil others) ∙ ap (λ cs. others ++ cs) (sym (fits makes.word))) ∙ whole;
       alike_is =
-          ap (λ ss. are_alike (ss ++ sort_behind with.first) && with.alike) (more own_sort ∙ ap (λ ss. sorts ++ ss) (no_sorts (places_made wanted kids) makes.taken) ∙ append-nil sorts)
+          ap (λ ss. are_alike (ss ++ sort_behind with.first) && with.alike) (more own_sort ∙ ap (λ ss. sorts ++ ss) (no_sorts (places_made (env_of h ns) wanted kids) makes.taken) ∙ append-nil sorts)
           ∙ sym (alike sorts)
           ∙ ap (λ ss. are_alike (ss ++ sort_behind operands.first) && operands.alike) (ap (λ ss. sorts ++ ss) (sym (of_sort place)) ∙ sym (in_last own_sort xs ys place makes.rest makes.phrase places empty) ∙ ap (in_places own_sort (open_places xs)) (sym makes.after_is))
           ∙ so_far.alike_is;
@@ -115,8 +115,8 @@ module _ (h : Heap Part) (ns : List Named) (ps : List Phrase) where
         sorts : List (Option Sort)
         sorts = in_places own_sort (open_places ys) makes.rest
 
-        more : {A : Type 0} (f : Option Wanted → Phrase → List A) → in_places f (open_places zs) before ≡ in_places f (open_places ys) makes.rest ++ one_each f (places_made wanted kids) makes.taken
-        more f = (λ i. in_places f (opened i) (makes.before_is i)) ∙ in_more f (open_places ys) (places_made wanted kids) makes.rest makes.taken (makes.as_many wanted)
+        more : {A : Type 0} (f : Option Wanted → Phrase → List A) → in_places f (open_places zs) before ≡ in_places f (open_places ys) makes.rest ++ one_each f (places_made (env_of h ns) wanted kids) makes.taken
+        more f = (λ i. in_places f (opened i) (makes.before_is i)) ∙ in_more f (open_places ys) (places_made (env_of h ns) wanted kids) makes.rest makes.taken (makes.as_many wanted)
 
         no_sorts : (ws : List Wanted) (qs : List Phrase) → one_each own_sort ws qs ≡ []
         no_sorts [] qs = refl

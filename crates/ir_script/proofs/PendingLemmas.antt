@@ -3,13 +3,13 @@ use Rattle.std.proofs.Common.{◌≡◌, ℕ, zero, suc, ◌+◌, ◌<◌, ◌�
 use Rattle.std.proofs.Math.Bool.{and-true, and_assoc}
 use Rattle.std.proofs.lemmas.Grind.{flat_map-append, replicate_next}
 use Rattle.std.proofs.lemmas.List.{append-nil, reverse-append, drop_all, drop_more, set_split, take_more}
+use Rattle.ir_laws.specs.Environment.{Environment}
 use Rattle.ir_laws.specs.Phrase.{Phrase}
 use Rattle.ir_laws.specs.Same.{same_sort}
 use Rattle.ir_laws.specs.Sorts.{Wanted, are_of_one_sort, kid_wanted, kids_wanted}
 use Rattle.ir_laws.specs.declared.labels.KidForm.{KidForm}
 use Rattle.ir_laws.specs.declared.labels.Part.{Part}
 use Rattle.ir_laws.specs.declared.labels.Part.TheVariants.{Fixed, ForGroup, AField, AKid}
-use Rattle.ir_script.specs.Causes.{no_names}
 use Rattle.ir_laws.specs.declared.labels.Sort.{Sort}
 use Rattle.ir_script.specs.Open.{is_like, kids_open, open_places, place_open, sort_behind, sort_open}
 use Rattle.ir_script.specs.Operands.{are_alike}
@@ -35,37 +35,38 @@ open_less xs i run less last is same one =
     rw_next : (n : ℕ) → replicate (suc (suc n)) (wanted_seen run.wanted) ≡ replicate (suc n) (wanted_seen less.wanted) ++ wanted_seen run.wanted ∷ []
     rw_next n = let e : suc (suc n) ≡ suc n + 1 = omega arith in ap (λ m. replicate m (wanted_seen run.wanted)) e ∙ replicate_next (suc n) (wanted_seen run.wanted) ∙ ap (λ w. replicate (suc n) (wanted_seen w) ++ wanted_seen run.wanted ∷ []) (sym same)
 
--- the parts that are no kids open no place
-other : (part : Part) (parts : List Part) → ((form : KidForm) → part ≡ AKid form → ⊥) → kids_wanted no_names [] (part ∷ parts) ≡ kids_wanted no_names [] parts
-other (Fixed word) parts none = refl
-other ForGroup parts none = refl
-other (AField form) parts none = refl
-other (AKid form) parts none = absurd (none form refl)
-
-pub kids_other : (parts : List Part) (i : ℕ) (d : Part) → i < length parts → ((form : KidForm) → get_or parts i d ≡ AKid form → ⊥) → kids_wanted no_names [] (drop (i + 1) parts) ≡ kids_wanted no_names [] (drop i parts)
-kids_other parts i d h none = sym (ap (kids_wanted no_names []) (drop_more parts i d h) ∙ other (get_or parts i d) (drop (i + 1) parts) none)
-
--- a part that is a kid opens one
-pub open_kid : (parts : List Part) (i : ℕ) (d : Part) (form : KidForm) (further : Wanted) (left : ℕ) (xs : List Pending) (run : Pending) → i < length parts → get_or parts i d ≡ AKid form → wanted_seen run.wanted ≡ kid_wanted no_names [] form → run.more ≡ 0
-    → open_places (xs ++ run ∷ []) ++ kids_open (kids_wanted no_names [] (drop (i + 1) parts)) further left ≡ open_places xs ++ kids_open (kids_wanted no_names [] (drop i parts)) further (suc left)
-open_kid parts i d form further left xs run h is wanted one =
-    let rest = kids_wanted no_names [] (drop (i + 1) parts) in
-    let whole : kids_wanted no_names [] (drop i parts) ≡ kid_wanted no_names [] form ∷ rest = ap (kids_wanted no_names []) (drop_more parts i d h) ∙ ap (λ part. kids_wanted no_names [] (part ∷ drop (i + 1) parts)) is in
-    ap (λ ws. ws ++ kids_open rest further left) (open_push xs run)
-    ∙ (λ i. (open_places xs ++ replicate (suc (one i)) (wanted i)) ++ kids_open rest further left)
-    ∙ append_assoc (open_places xs) (kid_wanted no_names [] form ∷ []) (kids_open rest further left)
-    ∙ ap (λ ws. open_places xs ++ kids_open ws further (suc left)) (sym whole)
-
 all_further : (further : Wanted) (n : ℕ) → replicate n further ≡ kids_open [] further n
 all_further further zero = refl
 all_further further (suc n) = ap (λ ws. further ∷ ws) (all_further further n)
 
--- the further kids open the rest
-pub open_rest : (parts : List Part) (i : ℕ) (further : Wanted) (left : ℕ) (xs : List Pending) (run : Pending) → length parts ≤ i → wanted_seen run.wanted ≡ further → suc run.more ≡ left
-    → open_places (xs ++ run ∷ []) ≡ open_places xs ++ kids_open (kids_wanted no_names [] (drop i parts)) further left
-open_rest parts i further left xs run all wanted many =
-    open_push xs run ∙ (λ i. open_places xs ++ replicate (many i) (wanted i)) ∙ ap (λ ws. open_places xs ++ ws) (all_further further left)
-    ∙ ap (λ ps. open_places xs ++ kids_open (kids_wanted no_names [] ps) further left) (sym (drop_all i parts all))
+module _ (env : Environment) where
+  -- the parts that are no kids open no place
+  other : (part : Part) (parts : List Part) → ((form : KidForm) → part ≡ AKid form → ⊥) → kids_wanted env [] (part ∷ parts) ≡ kids_wanted env [] parts
+  other (Fixed word) parts none = refl
+  other ForGroup parts none = refl
+  other (AField form) parts none = refl
+  other (AKid form) parts none = absurd (none form refl)
+
+  pub kids_other : (parts : List Part) (i : ℕ) (d : Part) → i < length parts → ((form : KidForm) → get_or parts i d ≡ AKid form → ⊥) → kids_wanted env [] (drop (i + 1) parts) ≡ kids_wanted env [] (drop i parts)
+  kids_other parts i d h none = sym (ap (kids_wanted env []) (drop_more parts i d h) ∙ other (get_or parts i d) (drop (i + 1) parts) none)
+
+  -- a part that is a kid opens one
+  pub open_kid : (parts : List Part) (i : ℕ) (d : Part) (form : KidForm) (further : Wanted) (left : ℕ) (xs : List Pending) (run : Pending) → i < length parts → get_or parts i d ≡ AKid form → wanted_seen run.wanted ≡ kid_wanted env [] form → run.more ≡ 0
+      → open_places (xs ++ run ∷ []) ++ kids_open (kids_wanted env [] (drop (i + 1) parts)) further left ≡ open_places xs ++ kids_open (kids_wanted env [] (drop i parts)) further (suc left)
+  open_kid parts i d form further left xs run h is wanted one =
+      let rest = kids_wanted env [] (drop (i + 1) parts) in
+      let whole : kids_wanted env [] (drop i parts) ≡ kid_wanted env [] form ∷ rest = ap (kids_wanted env []) (drop_more parts i d h) ∙ ap (λ part. kids_wanted env [] (part ∷ drop (i + 1) parts)) is in
+      ap (λ ws. ws ++ kids_open rest further left) (open_push xs run)
+      ∙ (λ i. (open_places xs ++ replicate (suc (one i)) (wanted i)) ++ kids_open rest further left)
+      ∙ append_assoc (open_places xs) (kid_wanted env [] form ∷ []) (kids_open rest further left)
+      ∙ ap (λ ws. open_places xs ++ kids_open ws further (suc left)) (sym whole)
+
+  -- the further kids open the rest
+  pub open_rest : (parts : List Part) (i : ℕ) (further : Wanted) (left : ℕ) (xs : List Pending) (run : Pending) → length parts ≤ i → wanted_seen run.wanted ≡ further → suc run.more ≡ left
+      → open_places (xs ++ run ∷ []) ≡ open_places xs ++ kids_open (kids_wanted env [] (drop i parts)) further left
+  open_rest parts i further left xs run all wanted many =
+      open_push xs run ∙ (λ i. open_places xs ++ replicate (many i) (wanted i)) ∙ ap (λ ws. open_places xs ++ ws) (all_further further left)
+      ∙ ap (λ ps. open_places xs ++ kids_open (kids_wanted env [] ps) further left) (sym (drop_all i parts all))
 
 -- ---- one more operand
 

@@ -12,7 +12,7 @@ use Rattle.ir_laws.specs.Environment.{is_here, is_known, term_named, with_term}
 use Rattle.ir_laws.specs.Heap.{Heap, Grows, tree_of}
 use Rattle.ir_laws.specs.Names.{if_so}
 use Rattle.ir_laws.specs.Tree.{Text}
-use Rattle.ir_script.specs.Scope.{Named, part_named, term_in, named_only, env_of, IsTerm, AreTerms}
+use Rattle.ir_script.specs.Scope.{Named, part_named, term_in, env_of, IsTerm, AreTerms}
 
 -- ---- a look-up by bytes
 
@@ -88,7 +88,7 @@ module _ (h k : Heap Part) (grows : Grows h k) where
   terms_later (n ∷ ns) terms = (later n.1 terms.0, terms_later ns terms.1)
 
   pub env_later : (ns : List Named) → AreTerms h ns → env_of k ns ≡ env_of h ns
-  env_later ns terms = ap named_only (same ns terms)
+  env_later ns terms = ap (λ ts. record { items = []; terms = ts }) (same ns terms)
     where
       same : (ns : List Named) → AreTerms h ns → map (term_in k) ns ≡ map (term_in h) ns
       same [] terms = refl
@@ -100,4 +100,4 @@ terms_push h [] n terms one = (one, tt)
 terms_push h (m ∷ ns) n terms one = (terms.0, terms_push h ns n terms.1 one)
 
 pub env_push : (h : Heap Part) (ns : List Named) (name : Text) (q : Part) → env_of h (ns ++ (name, q) ∷ []) ≡ with_term (env_of h ns) name (tree_of h q)
-env_push h ns name q = ap named_only (map_push (term_in h) ns (name, q))
+env_push h ns name q = ap (λ ts. record { items = []; terms = ts }) (map_push (term_in h) ns (name, q))

@@ -4,7 +4,6 @@ use Rattle.ir_core.specs.declared.errors.TermError.{TermError}
 use Rattle.ir_core.specs.declared.errors.TermError.TheVariants as term
 use Rattle.ir_laws.specs.Cause as spec
 use Rattle.ir_laws.specs.Cause.{cause_text, is_cause_among}
-use Rattle.ir_laws.specs.Environment.{Environment}
 use Rattle.ir_syntax.specs.declared.errors.ReadError.{ReadError}
 use Rattle.ir_syntax.specs.declared.errors.ReadError.TheVariants as read
 use Rattle.ir_script.specs.declared.causes.Cause.{Cause}
@@ -59,7 +58,3 @@ cause_of term.Memory = Memory
 abbrev pub read_cause : ReadError → Cause
 read_cause read.Syntax = Syntax
 read_cause read.Memory = Memory
-
--- no name is declared
-abbrev pub no_names : Environment
-no_names = record { items = []; terms = [] }

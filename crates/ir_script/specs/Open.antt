@@ -2,6 +2,7 @@
 use Rattle.std.specs.Prelude.{ℕ, zero, suc, Bool, true, List, [], ◌∷◌, ◌++◌, flat_map, replicate, Option, Some, None}
 use Rattle.ir_laws.specs.Cause.{Cause, WrongSort}
 use Rattle.ir_laws.specs.Counts.{sort_of_label}
+use Rattle.ir_laws.specs.Environment.{Environment}
 use Rattle.ir_laws.specs.Label.{row}
 use Rattle.ir_laws.specs.Names.{unless}
 use Rattle.ir_laws.specs.Same.{same_sort}
@@ -9,7 +10,6 @@ use Rattle.ir_laws.specs.Sorts.{Wanted, length_misfits, places, suits}
 use Rattle.ir_laws.specs.declared.labels.Sort.{Sort}
 use Rattle.ir_laws.specs.declared.words.Word.{Word}
 use Rattle.ir_nodes.specs.Fits.{part_sort}
-use Rattle.ir_script.specs.Causes.{no_names}
 use Rattle.ir_syntax.specs.Steps.{kid_count}
 use Rattle.ir_script.specs.Wanted.{bare, wanted_seen}
 use Rattle.ir_script.specs.declared.resolved.Resolved.{Resolved}
@@ -46,9 +46,9 @@ kids_made (seen.List w n) = Some (w, n)
 kids_made step = None
 
 -- the places of its kids
-abbrev pub places_made : Wanted → Option (Word × ℕ) → List Wanted
-places_made wanted None = []
-places_made wanted (Some (word, n)) = kids_open (places no_names wanted (bare word)).first (places no_names wanted (bare word)).further n
+abbrev pub places_made : Environment → Wanted → Option (Word × ℕ) → List Wanted
+places_made env wanted None = []
+places_made env wanted (Some (word, n)) = kids_open (places env wanted (bare word)).first (places env wanted (bare word)).further n
 
 -- the causes of a term by itself: its sort, and its length as a list
 abbrev pub length_made : Wanted → Option (Word × ℕ) → List Cause

@@ -28,13 +28,9 @@ part_named ns name = option_map (λ n. n.1) (find (λ n. bytes_eq n.0 name) ns)
 abbrev pub term_in : Heap Part → Named → NamedTerm
 term_in h n = record { name = n.0; term = tree_of h n.1 }
 
--- terms have names, and no item is declared
-abbrev pub named_only : List NamedTerm → Environment
-named_only ts = record { items = []; terms = ts }
-
--- what the names mean
+-- what the names mean; no item is declared yet
 abbrev pub env_of : Heap Part → List Named → Environment
-env_of h ns = named_only (map (term_in h) ns)
+env_of h ns = record { items = []; terms = map (term_in h) ns }
 
 -- the sorts that an operand may have
 abbrev pub operand_sorts : List Sort

@@ -9,7 +9,6 @@ ghost use Rattle.ir_laws.specs.Tree.{Field as FieldSeen, OfKind, Text};
 ghost use Rattle.ir_nodes.specs.Nodes as table;
 ghost use Rattle.ir_nodes.specs.Nodes.{variable_seen};
 ghost use Rattle.ir_syntax.specs.declared.steps.Step.TheVariants as code;
-ghost use Rattle.ir_script.specs.Causes.{no_names};
 ghost use Rattle.ir_script.specs.LookedUp.{IsFaultOf, field_names, field_unknowns, step_names, step_unknowns, field_sort, sort_of_sorts};
 ghost use Rattle.ir_script.specs.Operands.{AnswersNames};
 ghost use Rattle.ir_syntax.specs.Grammar.{field_seen, kind_seen};
@@ -36,7 +35,7 @@ pub(crate) struct Names {
 // The variable of this kind. With a name it is a fault of sorts, since no item is declared, where the name is known.
 fn variable_of(scope: &Scope<'_>, kind: &VariableKind<'_>) -> Result<BoundVarKind, Cause>
     ensures known { OnOk result (field_unknowns (scope_names scope.now) (OfKind (kind_seen kind.now)) ≡ 0) }
-    ensures ok { IfOk result (λ v. kind_in no_names (kind_seen kind.now) ≡ Some (variable_seen v)) }
+    ensures ok { (h : Heap PartSeen) → IfOk result (λ v. kind_in (env_of h (scope_names scope.now)) (kind_seen kind.now) ≡ Some (variable_seen v)) }
     ensures err { IfErr result (IsFaultOf (field_unknowns (scope_names scope.now) (OfKind (kind_seen kind.now))) (field_names (OfKind (kind_seen kind.now)))) }
 {
     if let Some(name) = kind.name() {
@@ -56,7 +55,7 @@ fn variable_of(scope: &Scope<'_>, kind: &VariableKind<'_>) -> Result<BoundVarKin
 // The field as the interner has it.
 fn field_of(scope: &Scope<'_>, field: &Field<'_>) -> Result<ir_nodes::Field, Cause>
     ensures known { OnOk result (field_unknowns (scope_names scope.now) (field_seen field.now) ≡ 0) }
-    ensures ok { IfOk result (λ g. field_meant no_names (field_seen field.now) ≡ Some (table.field_seen g)) }
+    ensures ok { (h : Heap PartSeen) → IfOk result (λ g. field_meant (env_of h (scope_names scope.now)) (field_seen field.now) ≡ Some (table.field_seen g)) }
     ensures err { IfErr result (IsFaultOf (field_unknowns (scope_names scope.now) (field_seen field.now)) (field_names (field_seen field.now))) }
 {
     match field {

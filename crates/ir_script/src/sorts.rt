@@ -1,13 +1,14 @@
 //! Terms in places that want another sort, and lists of a length that theirs does not take.
 ghost use Rattle.std.specs.Prelude.{◌≡◌, ◌⊎◌, ◌&&◌, ◌++◌, List, [], Option, true, Err, IfErr, IfOk, None as NoPlace, OnErr, OnOk};
 ghost use Rattle.ir_core.specs.declared.handles.Part.{Part as PartSeen};
+ghost use Rattle.ir_laws.specs.Environment.{Environment};
 ghost use Rattle.ir_laws.specs.Heap.{Heap};
 ghost use Rattle.ir_laws.specs.declared.labels.Sort.{Sort as SortSeen};
 ghost use Rattle.ir_laws.specs.declared.words.Word.{Word as WordSeen};
 ghost use Rattle.ir_laws.specs.Phrase.{Phrase as PhraseSeen};
 ghost use Rattle.ir_laws.specs.Sorts.{is_sort_among, suits, length_misfits, kid_wanted, kids_wanted, places};
 ghost use Rattle.ir_script.specs.declared.causes.Cause.TheVariants as cause;
-ghost use Rattle.ir_script.specs.Causes.{cause_seen, no_names, Finds, Says};
+ghost use Rattle.ir_script.specs.Causes.{cause_seen, Finds, Says};
 ghost use Rattle.ir_script.specs.Open.{is_like, kids_open, open_places, own_misfits, place_open, places_made, sort_behind, sort_made, sort_open, kids_made};
 ghost use Rattle.ir_script.specs.Operands.{AnswersPlaces, are_alike};
 ghost use Rattle.ir_script.specs.Resolved.{StandFor};
@@ -20,7 +21,7 @@ use ir_laws::{IfEmpty, KidForm, Part, Sort, Word};
 use ir_nodes::sort_of_part;
 use ir_syntax::kid_count;
 
-/// What a place wants. No item is declared, so that no place knows the sorts of an item's arguments.
+/// What a place wants. The sorts of an item's arguments are not known, as long as a label has no item.
 #[derive(Clone, Copy, PartialEq, Eq, Debug)]
 pub(crate) enum Wanted {
     /// A term that stands by itself: a type, a region, a constant, a pattern or a predicate.
@@ -39,7 +40,7 @@ pub(crate) enum Wanted {
 impl Wanted {
     /// What a kid of this form is wanted to be.
     fn of_kid(form: KidForm) -> Wanted
-        ensures { wanted_seen result ≡ kid_wanted no_names [] form }
+        ensures { (env : Environment) → wanted_seen result ≡ kid_wanted env [] form }
     {
         match form {
             KidForm::OneOf(sort) => Wanted::One(sort),
@@ -90,7 +91,7 @@ impl Wanted {
 
     /// The parts of a label of this word, by which its first kids are wanted; a list has none.
     fn parts_of(self, word: Word) -> &'static [Part]
-        ensures { kids_wanted no_names [] result.now ≡ (places no_names (wanted_seen self) (bare word)).first }
+        ensures { (env : Environment) → kids_wanted env [] result.now ≡ (places env (wanted_seen self) (bare word)).first }
     {
         match self {
             Wanted::Members(_, _) | Wanted::Arguments => &[],
@@ -102,7 +103,7 @@ impl Wanted {
 
     /// What the further kids are wanted to be.
     fn further(self) -> Wanted
-        ensures { (word : Word) → wanted_seen result ≡ (places no_names (wanted_seen self) (bare word)).further }
+        ensures { (env : Environment) (word : Word) → wanted_seen result ≡ (places env (wanted_seen self) (bare word)).further }
     {
         match self {
             Wanted::Members(sort, _) => Wanted::One(sort),
@@ -210,7 +211,7 @@ fn open_kids(
     word: Word,
     count: usize,
 ) -> Result<(), Cause>
-    ensures ok { OnOk result (open_places pending.new.items ≡ open_places pending.old.items ++ kids_open (places no_names (wanted_seen wanted) (bare word)).first (places no_names (wanted_seen wanted) (bare word)).further count) }
+    ensures ok { (env : Environment) → OnOk result (open_places pending.new.items ≡ open_places pending.old.items ++ places_made env (wanted_seen wanted) (Some (word, count))) }
     ensures err { OnErr result (result ≡ Err cause.Memory) }
 {
     let mut left = count;
@@ -246,7 +247,7 @@ fn enter(
     kids: Option<(Word, usize)>,
 ) -> Result<(), Cause>
     ensures fits { OnOk result ((word : WordSeen) → own_misfits (wanted_seen wanted) word sort kids ≡ []) }
-    ensures places { OnOk result (open_places pending.new.items ≡ open_places pending.old.items ++ places_made (wanted_seen wanted) kids) }
+    ensures places { (env : Environment) → OnOk result (open_places pending.new.items ≡ open_places pending.old.items ++ places_made env (wanted_seen wanted) kids) }
     ensures err { IfErr result (λ c. (cause_seen c ≡ NoPlace) ⊎ ((word : WordSeen) → Says c (own_misfits (wanted_seen wanted) word sort kids))) }
 {
     if !wanted.suits(sort) {

@@ -1,4 +1,5 @@
 use Rattle.std.proofs.Common.{◌≡◌, Err, refl, arith, rules, subst, sym, ◌∙◌}
+use Rattle.ir_script.specs.Scope.{env_of}
 use Rattle.ir_script.proofs.OpenLemmas.{AreOpen, all_terms, none_made, open_all, open_fault, open_next, open_none, term_made, terms_at}
 use Rattle.ir_script.proofs.sorts.misfit.Goals as goal
 
@@ -23,7 +24,7 @@ loop-left-preserved c = record {
       let made = term_made h ns ps are c.args.resolved.now stand c.loop-left.left _ c.loop-left-test.true c.loop-left.invariant.within c.in-Some.sort c.kids_made.result (sym c.sort_made.ensures ∙ c.in-Some.is) c.kids_made.ensures in
       open_next h ns ps _ _ c.in-Some.sort _ made c.loop-left.pending.items c.next_place-place.new.pending.items c.loop-left.operands (c.loop-left.invariant.so_far h ns ps are stand)
       c.next_place-place.result c.next_place-place.ensures.places c.next_place-place.ensures.none c.unwrap_or.result c.unwrap_or.ensures
-      c.enter.new.pending.items c.with-operands.result c.in_ok-enter.ensures.fits c.in_ok-enter.ensures.places c.with-operands.ensures;
+      c.enter.new.pending.items c.with-operands.result c.in_ok-enter.ensures.fits (c.in_ok-enter.ensures.places (env_of h ns)) c.with-operands.ensures;
 }
 
 pub returns-in_err-enter : goal.returns-in_err-enter
